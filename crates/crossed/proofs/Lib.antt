@@ -1,0 +1,4 @@
+mod Firsts
+mod Moves
+pub mod Calls
+pub mod Kept

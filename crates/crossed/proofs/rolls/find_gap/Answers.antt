@@ -1,0 +1,16 @@
+use mathlib.Core.Path.{ap}
+use mathlib.Core.Bool.{not}
+use lib.Dec.{ltb}
+use Rattle.std.proofs.shelf.Tests.{le-ltb, lt-ltb}
+use Rattle.crossed.specs.Entries.{zeroEntry}
+use Rattle.crossed.proofs.Firsts.{first-here, first-more, first-none}
+use Rattle.crossed.proofs.rolls.find_gap.Needs as need
+
+pub returns-then-cells-i : need.returns-then-cells-i
+returns-then-cells-i c = first-here (λ x. not (ltb (x .number) (c .args .number))) (c .args .cells .now) _ (c .loop-i .i) (c .loop-i .inv) zeroEntry (c .loop-i-test .taken) (ap not (le-ltb _ _ (c .if-cells-i .taken)))
+
+pub loop-i-again : need.loop-i-again
+loop-i-again c = first-more (λ x. not (ltb (x .number) (c .args .number))) (c .args .cells .now) _ (c .loop-i .i) (c .loop-i .inv) zeroEntry (c .loop-i-test .taken) (ap not (lt-ltb _ _ (c .if-cells-i .left)))
+
+pub returns : need.returns
+returns c = first-none _ (c .args .cells .now) _ (c .loop-i .i) (c .loop-i .inv) (c .loop-i-test .left) (c .loop-i .kept .i-end)

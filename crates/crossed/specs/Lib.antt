@@ -1,0 +1,5 @@
+pub mod Entries
+pub mod Books
+pub mod Reachable
+pub mod Rolls
+pub mod Asking

@@ -1,0 +1,4 @@
+pub mod Asking
+pub mod Beginning
+pub mod Filling
+pub mod Worked

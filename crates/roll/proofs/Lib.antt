@@ -1,0 +1,6 @@
+pub mod Firsts
+pub mod Moves
+pub mod Calls
+pub mod Sums
+pub mod Orders
+pub mod Premises

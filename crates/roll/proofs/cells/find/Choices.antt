@@ -1,0 +1,12 @@
+use mathlib.Core.Path.{_≡_}
+use Prim.Native.Nat.{_+_}
+use lib.ListN.{drop}
+use Rattle.roll.specs.Order.{seat}
+use Rattle.roll.specs.Standing.{kind}
+use Rattle.roll.proofs.cells.find.Given as given
+
+abbrev pub Inv-loop-i : given.InvT-loop-i
+Inv-loop-i g l =
+    let m = g .M·Measure in
+    let k = kind (m .algebra) (m .row) (m .span) in
+    l .i + seat k (l .number) (drop (l .i) (l .cells)) ≡ seat k (l .number) (l .cells)

@@ -1,0 +1,7 @@
+pub mod Overs
+mod Nexts
+mod Runs
+mod Digits
+mod Fits
+mod Trips
+mod Fills

@@ -1,0 +1,5 @@
+pub mod Bytes
+pub mod Records
+pub mod Files
+pub mod Writing
+pub mod Laws

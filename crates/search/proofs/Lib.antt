@@ -1,0 +1,15 @@
+pub mod Columns
+pub mod Sums
+pub mod Splits
+pub mod RaisedTotals
+pub mod RaisingPass
+pub mod LoweredTotals
+pub mod LoweringPass
+pub mod Squeezed
+pub mod Framing
+pub mod Born
+pub mod Stacking
+pub mod Exploring
+pub mod Stepping
+pub mod Running
+pub mod Rooting

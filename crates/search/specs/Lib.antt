@@ -1,0 +1,4 @@
+pub mod Table
+pub mod Standing
+pub mod Waiting
+pub mod Searches

@@ -1,0 +1,17 @@
+pub mod Forms
+pub mod Vectors
+pub mod Members
+pub mod Complements
+pub mod Totals
+pub mod Choices
+pub mod Squeeze
+pub mod Kept
+pub mod Opens
+pub mod Trace
+pub mod Band
+pub mod Steps
+pub mod Agreement
+pub mod Listed
+pub mod Ranks
+pub mod Amounts
+pub mod Crossed
