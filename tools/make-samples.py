@@ -2,7 +2,7 @@
 """Writes the small sample files: samples/NAME.roll with its listing samples/NAME.out.
 
 The listings are written out here, so that they test every program that lists.
-Run it from anywhere: it writes beside itself, into samples/.
+Run it from anywhere: it writes into samples/ of the repository.
 """
 
 import os
@@ -120,7 +120,7 @@ SAMPLES = {
 
 
 def main():
-    folder = os.path.join(os.path.dirname(os.path.abspath(__file__)), "samples")
+    folder = os.path.join(os.path.dirname(os.path.abspath(__file__)), "..", "samples")
     os.makedirs(folder, exist_ok=True)
     for name, (roll, out) in SAMPLES.items():
         with open(os.path.join(folder, name + ".roll"), "wb") as file:

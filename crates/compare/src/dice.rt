@@ -8,9 +8,9 @@ pub struct Dice {
 }
 
 impl Dice {
-    // A source that always gives the same numbers from the same seed.
-    pub fn new(seed: u64) -> Dice {
-        Dice { state: seed }
+    // A source that gives the same numbers in each run.
+    pub fn new() -> Dice {
+        Dice { state: 20_240_229 }
     }
 
     // A number below the given one; 0 if that is 0.
@@ -20,8 +20,7 @@ impl Dice {
         self.state = self.state
             .wrapping_mul(6_364_136_223_846_793_005)
             .wrapping_add(1_442_695_040_888_963_407);
-        let high = (self.state >> 33) as u32;
-        high % sides.max(1)
+        (self.state >> 33) as u32 % sides.max(1)
     }
 
     // An amount from the given one up, of so many.

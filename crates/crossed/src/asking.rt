@@ -11,10 +11,10 @@ use crate::entries::Columns;
 use crate::entries::past_zero;
 use crate::ranks::Ranked;
 use crate::rolls::Roll;
-use roll::refusal::Refusal;
 use question::asking::Side;
 use question::asking::has_room;
 use question::asking::size_fits;
+use roll::refusal::Refusal;
 
 // Asks for sets of so many entries whose totals lie from low to high in each column.
 #[derive(Clone, Copy)]

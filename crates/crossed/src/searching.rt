@@ -17,11 +17,11 @@ use crate::rolls::Roll;
 use measure::CentsMeasure;
 use measure::Measure;
 use measure::PairMeasure;
-use roll::refusal::Refusal;
-use roll::straight::Entry as Shadow;
 use question::asking::Question as Straight;
 use question::asking::Side;
 use question::beginning::begin_over;
+use roll::refusal::Refusal;
+use roll::straight::Entry as Shadow;
 use search::search::Answer;
 use search::search::Search as Searching;
 use search::search::Told;
@@ -75,7 +75,11 @@ fn course_of(falls: Amounts, asked: Question, n: usize, size: usize) -> Course {
 // The search of a question to the roll: writes its table and begins. After a refusal the table stays, and the search is
 // finished, of size 0.
 pub fn begin<'t>(roll: &Roll, asked: Question, table: &'t mut [Ranked]) -> Search<'t> {
-    let size = if check(roll, asked, table).is_ok() { asked.size } else { 0 };
+    let size = if check(roll, asked, table).is_ok() {
+        asked.size
+    } else {
+        0
+    };
     let falls = falls(roll.entries());
     let mut shadows = [Shadow {
         number: 0,
@@ -143,12 +147,21 @@ impl<'t> Search<'t> {
             let answer = self.straight.advance(allowance - steps, page)?;
             steps += answer.steps;
             match answer.told {
-                Told::Set => return Ok(Answer { told: Told::Set, steps }),
-                Told::Spent => return Ok(Answer { told: Told::Spent, steps }),
+                Told::Set => return Ok(Answer {
+                    told: Told::Set,
+                    steps,
+                }),
+                Told::Spent => return Ok(Answer {
+                    told: Told::Spent,
+                    steps,
+                }),
                 Told::Finished => {}
             }
             if self.course.rank >= self.course.last {
-                return Ok(Answer { told: Told::Finished, steps });
+                return Ok(Answer {
+                    told: Told::Finished,
+                    steps,
+                });
             }
             self.pass_on();
         }

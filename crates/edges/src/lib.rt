@@ -1,6 +1,22 @@
 // Tests at the edges of the refusals, in a crate of their own: a crate with tests is proved twice.
+ghost use mathlib.Core.Path.{_≡_};
+ghost use Rattle.std.specs.declared.result.Result.the-variants.{Ok, Err};
+ghost use Rattle.roll.specs.Refusals.{numberOf};
+use roll::refusal::Refusal;
+
+// The number of the refusal, or 0.
+pub fn told(answer: Result<(), Refusal>) -> u8
+    ensures { λ r. ⌜ elim answer [ Ok u ↦ r ≡ 0 | Err e ↦ r ≡ numberOf e ] ⌝ }
+{
+    match answer {
+        Ok(()) => 0,
+        Err(refusal) => refusal.number(),
+    }
+}
+
 #[cfg(test)]
 mod questions {
+    use super::told;
     use crossed::asking::Question as CrossedQuestion;
     use crossed::asking::check as check_crossed;
     use crossed::entries::Amounts;
@@ -21,13 +37,6 @@ mod questions {
     use roll::straight::Entry;
     use roll::straight::open;
     use std::test::*;
-
-    fn code(answer: Result<(), Refusal>) -> u8 {
-        match answer {
-            Ok(()) => 0,
-            Err(refusal) => refusal.number(),
-        }
-    }
 
     fn cents(value: i64) -> Cents {
         Cents { value }
@@ -59,13 +68,34 @@ mod questions {
         let _ = roll.enter(entry(4, 4));
         let nine = [cents(0); 9];
         let eight = [cents(0); 8];
-        check_eq(code(check_straight(&roll, asked(Side::Paid, 0, 5, 5), &nine)), 6)?;
-        check_eq(code(check_straight(&roll, asked(Side::Paid, 5, 5, 5), &nine)), 6)?;
-        check_eq(code(check_straight(&roll, asked(Side::Left, 4, 5, 5), &nine)), 6)?;
-        check_eq(code(check_straight(&roll, asked(Side::Paid, 2, 6, 5), &nine)), 7)?;
-        check_eq(code(check_straight(&roll, asked(Side::Paid, 2, 5, 2_000_000_000_000_001), &nine)), 7)?;
-        check_eq(code(check_straight(&roll, asked(Side::Paid, 2, 5, 2_000_000_000_000_000), &nine)), 0)?;
-        check_eq(code(check_straight(&roll, asked(Side::Left, 2, 5, 5), &eight)), 8)
+        check_eq(
+            told(check_straight(&roll, asked(Side::Paid, 0, 5, 5), &nine)),
+            6,
+        )?;
+        check_eq(
+            told(check_straight(&roll, asked(Side::Paid, 5, 5, 5), &nine)),
+            6,
+        )?;
+        check_eq(
+            told(check_straight(&roll, asked(Side::Left, 4, 5, 5), &nine)),
+            6,
+        )?;
+        check_eq(
+            told(check_straight(&roll, asked(Side::Paid, 2, 6, 5), &nine)),
+            7,
+        )?;
+        check_eq(
+            told(check_straight(&roll, asked(Side::Paid, 2, 5, 2_000_000_000_000_001), &nine)),
+            7,
+        )?;
+        check_eq(
+            told(check_straight(&roll, asked(Side::Paid, 2, 5, 2_000_000_000_000_000), &nine)),
+            0,
+        )?;
+        check_eq(
+            told(check_straight(&roll, asked(Side::Left, 2, 5, 5), &eight)),
+            8,
+        )
     }
 
     #[test]
@@ -114,11 +144,17 @@ mod questions {
         });
         let table = [Ranked::nothing(); 3];
         let short = [Ranked::nothing(); 2];
-        check_eq(code(check_crossed(&roll, crossed(20_000_000_000_000, 0), &table)), 0)?;
-        check_eq(code(check_crossed(&roll, crossed(20_000_000_000_001, 0), &table)), 7)?;
-        check_eq(code(check_crossed(&roll, crossed(-1, 0), &table)), 7)?;
-        check_eq(code(check_crossed(&roll, crossed(5, 1), &short)), 8)?;
-        check_eq(code(check_crossed(&roll, crossed(5, 1), &table)), 11)
+        check_eq(
+            told(check_crossed(&roll, crossed(20_000_000_000_000, 0), &table)),
+            0,
+        )?;
+        check_eq(
+            told(check_crossed(&roll, crossed(20_000_000_000_001, 0), &table)),
+            7,
+        )?;
+        check_eq(told(check_crossed(&roll, crossed(-1, 0), &table)), 7)?;
+        check_eq(told(check_crossed(&roll, crossed(5, 1), &short)), 8)?;
+        check_eq(told(check_crossed(&roll, crossed(5, 1), &table)), 11)
     }
 
     #[test]
@@ -136,11 +172,11 @@ mod questions {
 
 #[cfg(test)]
 mod straight_rolls {
+    use super::told;
     use measure::Cents;
     use measure::CentsMeasure;
     use measure::Pair;
     use measure::PairMeasure;
-    use roll::refusal::Refusal;
     use roll::straight::Entry;
     use roll::straight::open;
     use std::test::*;
@@ -155,14 +191,6 @@ mod straight_rolls {
         let second = Cents { value: second };
         let value = Pair { first, second };
         Entry { number, value }
-    }
-
-    // The number of the refusal, or 0.
-    fn told(answer: Result<(), Refusal>) -> u8 {
-        match answer {
-            Ok(()) => 0,
-            Err(refusal) => refusal.number(),
-        }
     }
 
     #[test]
@@ -199,11 +227,11 @@ mod straight_rolls {
 
 #[cfg(test)]
 mod crossed_rolls {
+    use super::told;
     use crossed::entries::Amounts;
     use crossed::entries::Columns;
     use crossed::entries::Entry;
     use crossed::rolls::open;
-    use roll::refusal::Refusal;
     use std::test::*;
 
     fn entry(number: u32, first: i64, second: i64) -> Entry {
@@ -218,25 +246,18 @@ mod crossed_rolls {
         }
     }
 
-    fn code(r: Result<(), Refusal>) -> u8 {
-        match r {
-            Ok(()) => 0,
-            Err(refusal) => refusal.number(),
-        }
-    }
-
     #[test]
     fn numbers_rise() -> Result<(), Fail> {
         let mut cells = [entry(0, 0, 0); 2];
         let mut roll = open(&mut cells, Columns::One);
-        check_eq(code(roll.enter(entry(7, -5, 0))), 0)?;
-        check_eq(code(roll.enter(entry(3, 100_000_000_000, 0))), 0)?;
-        check_eq(code(roll.enter(entry(4, 100_000_000_001, 0))), 1)?;
-        check_eq(code(roll.enter(entry(3, 1, 0))), 2)?;
-        check_eq(code(roll.enter(entry(4, 1, 1))), 3)?;
-        check_eq(code(roll.strike(7)), 0)?;
-        check_eq(code(roll.strike(7)), 5)?;
-        check_eq(code(roll.enter(entry(4, 1, 1))), 11)?;
+        check_eq(told(roll.enter(entry(7, -5, 0))), 0)?;
+        check_eq(told(roll.enter(entry(3, 100_000_000_000, 0))), 0)?;
+        check_eq(told(roll.enter(entry(4, 100_000_000_001, 0))), 1)?;
+        check_eq(told(roll.enter(entry(3, 1, 0))), 2)?;
+        check_eq(told(roll.enter(entry(4, 1, 1))), 3)?;
+        check_eq(told(roll.strike(7)), 0)?;
+        check_eq(told(roll.strike(7)), 5)?;
+        check_eq(told(roll.enter(entry(4, 1, 1))), 11)?;
         check(roll.len() == 1)
     }
 }

@@ -91,7 +91,12 @@ fn test(file: &[u8], cells: &mut [Entry], table: &[Ranked]) -> Result<(), Fault>
 }
 
 // The lines of all questions of a file; none where they do not fit the output.
-fn put_questions(out: &mut [u8], file: &[u8], cells: &mut [Entry], table: &mut [Ranked]) -> Option<usize>
+fn put_questions(
+    out: &mut [u8],
+    file: &[u8],
+    cells: &mut [Entry],
+    table: &mut [Ranked],
+) -> Option<usize>
     ensures { λ r. ⌜ Writes (now (out .entry)) 0 r (now (out .exit)) ⌝ }
 {
     let mut roll = open(cells, Columns::One);
@@ -119,7 +124,12 @@ fn put_questions(out: &mut [u8], file: &[u8], cells: &mut [Entry], table: &mut [
 }
 
 // The listing, or the line of the fault; none where it does not fit the output.
-fn put_listing(out: &mut [u8], file: &[u8], cells: &mut [Entry], table: &mut [Ranked]) -> Option<usize>
+fn put_listing(
+    out: &mut [u8],
+    file: &[u8],
+    cells: &mut [Entry],
+    table: &mut [Ranked],
+) -> Option<usize>
     ensures { λ r. ⌜ Writes (now (out .entry)) 0 r (now (out .exit)) ⌝ }
 {
     match test(file, cells, table) {

@@ -11,12 +11,12 @@ use crate::asking::judge;
 use crate::asking::searched_end;
 use crate::asking::searched_size;
 use crate::filling::write_table;
-use search::search::Search;
-use search::starting::over;
 use measure::Measure;
 use roll::refusal::Refusal;
 use roll::straight::Entry;
 use roll::straight::Roll;
+use search::search::Search;
+use search::starting::over;
 
 // Whether a question to the roll is accepted with this table, or its refusal.
 pub fn check<M: Measure>(roll: &Roll<M>, asked: Question<M>, table: &[M]) -> Result<(), Refusal>
@@ -66,7 +66,11 @@ pub fn begin_over<'t, M: Measure>(
 }
 
 // The search of a question to the roll. After a refusal the table stays, and the search is finished, of size 0.
-pub fn begin<'t, M: Measure>(roll: &Roll<M>, asked: Question<M>, table: &'t mut [M]) -> Search<'t, M>
+pub fn begin<'t, M: Measure>(
+    roll: &Roll<M>,
+    asked: Question<M>,
+    table: &'t mut [M],
+) -> Search<'t, M>
     ensures { λ s. ⌜ Answers algebra row span (standing (now (roll .entry))) asked (now (table .entry)) s ⌝ }
 {
     begin_over(roll.entries(), roll.total(), asked, table)

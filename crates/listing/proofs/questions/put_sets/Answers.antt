@@ -22,6 +22,7 @@ returns-in-Finished c =
 
 pub sets-again : need.sets-again
 sets-again c =
-    let l = c .sets in
-    (writes-then (c .args .out .now) (l .out) (c .put-set .last .out) (c .args .at) (l .next) (Some (c .in-Some .behind)) (l .inv .0) (c .in-Some .ensures tt),
-      c .advance .kept .page ∙ l .inv .1)
+    let l = c .sets in (
+      writes-then (c .args .out .now) (l .out) (c .put-set .last .out) (c .args .at) (l .next) (Some (c .in-Some .behind)) (l .inv .0) (c .in-Some .ensures tt),
+      c .advance .kept .page ∙ l .inv .1,
+    )
