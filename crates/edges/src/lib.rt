@@ -34,6 +34,8 @@ mod questions {
     use question::beginning::begin;
     use question::beginning::check as check_straight;
     use roll::refusal::Refusal;
+    use roll::refusal::RefusalDebug;
+    use roll::refusal::RefusalPartialEq;
     use roll::straight::Entry;
     use roll::straight::open;
     use std::test::*;
