@@ -15,7 +15,7 @@ impl<'t, M: Measure> Search<'t, M> {
         ensures beyond { drop (size_of self.old) page.new ≡ drop (size_of self.old) page.old }
         ensures safe { MatchResult result (λ a. (a.steps ≤ allowance) × (size_of self.old ≤ length page.old)) (λ e. (e ≡ ShortPage) × (length page.old < size_of self.old) × (self.new.work ≡ self.old.work) × (page.new ≡ page.old)) }
         ensures counted { IfOk result (λ a. a.told ≡ Told.Set → 0 < a.steps) }
-        ensures is { Sound algebra row span self.old → IfOk result (λ a. Ran (run (coming algebra row self.old) allowance 0) a page.old page.new (coming algebra row self.new)) }
+        ensures is { Sound M.algebra M.Measure.row M.span self.old → IfOk result (λ a. Ran (run (coming M.algebra M.Measure.row self.old) allowance 0) a page.old page.new (coming M.algebra M.Measure.row self.new)) }
     {
         if page.len() < self.work.frontier.root.m {
             return Err(Refusal::ShortPage);

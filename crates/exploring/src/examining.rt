@@ -24,7 +24,7 @@ pub(crate) fn examine<M: Measure>(table: &[M], work: &mut Work<M>, page: &mut [u
     ensures ends { (work.new.low ≡ work.old.low) × (work.new.high ≡ work.old.high) }
     ensures still { result ≡ false → page.new ≡ page.old }
     ensures beyond { drop work.old.frontier.root.m page.new ≡ drop work.old.frontier.root.m page.old }
-    ensures is { Holds algebra row span work.old.frontier.root.n work.old.frontier.root.m table.now → Examined result page.old page.new (items_of algebra row table.now (row work.old.low) (row work.old.high) work.old.frontier) (items_of algebra row table.now (row work.old.low) (row work.old.high) work.new.frontier) }
+    ensures is { Holds M.algebra M.Measure.row M.span work.old.frontier.root.n work.old.frontier.root.m table.now → Examined result page.old page.new (items_of M.algebra M.Measure.row table.now (M.Measure.row work.old.low) (M.Measure.row work.old.high) work.old.frontier) (items_of M.algebra M.Measure.row table.now (M.Measure.row work.old.low) (M.Measure.row work.old.high) work.new.frontier) }
 {
     let space = work.frontier.take();
     let Some(left) = squeezed(space, table, &mut work.room, work.low, work.high) else {

@@ -64,7 +64,7 @@ fn plan_over(n: usize, m: usize, cells: usize) -> Frontier
 // The Search for sets of `m` of `n` entries whose totals lie between `low` and `high`, over a table of the totals of
 // neighbours whose first column holds the entries. Where the sizes do not fit the Search is finished, and of size 0.
 pub fn over<'t, M: Measure>(table: &'t [M], n: usize, m: usize, low: M, high: M) -> Search<'t, M>
-    ensures { Begun algebra row span n m table.now low high result }
+    ensures { Begun M.algebra M.Measure.row M.span n m table.now low high result }
 {
     let frontier = plan_over(n, m, table.len());
     let room = [M::nothing(); 121];
@@ -90,7 +90,7 @@ impl<'t, M: Measure> Search<'t, M> {
     // The same Search begins again from its first space, between other ends.
     pub fn restart(&mut self, low: M, high: M)
         ensures same { Same self.old self.new }
-        ensures comes { coming algebra row self.new ≡ planned algebra row (count_of self.old) (size_of self.old) (table_of self.old) (row low) (row high) }
+        ensures comes { coming M.algebra M.Measure.row self.new ≡ planned M.algebra M.Measure.row (count_of self.old) (size_of self.old) (table_of self.old) (M.Measure.row low) (M.Measure.row high) }
     {
         self.work.frontier.restart();
         self.work.low = low;

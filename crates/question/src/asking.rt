@@ -35,7 +35,7 @@ pub fn size_fits(side: Side, n: usize, size: usize) -> bool
 
 // Whether the ends make a band, and both are admitted.
 fn band_fits<M: Measure>(low: M, high: M) -> bool
-    ensures { result ≡ band_fits algebra row span low high }
+    ensures { result ≡ band_fits M.algebra M.Measure.row M.span low high }
 {
     low.not_above(high) && low.admitted() && high.admitted()
 }
@@ -73,7 +73,7 @@ pub(crate) fn judge<M: Measure>(
     asked: Question<M>,
     room: usize,
 ) -> Result<(), Refusal>
-    ensures { result ≡ asking algebra row span (length entries.now) asked room }
+    ensures { result ≡ asking M.algebra M.Measure.row M.span (length entries.now) asked room }
 {
     let n = entries.len();
     if !size_fits(asked.side, n, asked.size) {
@@ -91,7 +91,7 @@ pub(crate) fn judge<M: Measure>(
 // An end of the sought band, where all entries come to `all`: from the end of the asked band that it stands for, and the
 // other one.
 pub(crate) fn sought_end<M: Measure>(side: Side, all: M, this: M, other: M) -> M
-    ensures { Needed side (span all + span other ≤ 240) → row result ≡ end algebra side (row all) (row this) (row other) }
+    ensures { Needed side (M.span all + M.span other ≤ 240) → M.Measure.row result ≡ end M.algebra side (M.Measure.row all) (M.Measure.row this) (M.Measure.row other) }
 {
     match side {
         Side::Paid => this,

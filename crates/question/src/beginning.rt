@@ -14,7 +14,7 @@ use roll::straight::{Entry, Roll};
 
 // Whether a question to the roll is accepted with this table, or its refusal.
 pub fn check<M: Measure>(roll: &Roll<M>, asked: Question<M>, table: &[M]) -> Result<(), Refusal>
-    ensures { result ≡ asking algebra row span (length (standing roll.now)) asked (length table.now) }
+    ensures { result ≡ asking M.algebra M.Measure.row M.span (length (standing roll.now)) asked (length table.now) }
 {
     judge(roll.entries(), asked, table.len())
 }
@@ -26,8 +26,8 @@ fn begin_accepted<'t, M: Measure>(
     asked: Question<M>,
     table: &'t mut [M],
 ) -> Search<'t, M>
-    requires { asking algebra row span (length entries.now) asked (length table.old) ≡ Ok tt }
-    ensures { Starts algebra row span entries.now all asked table.old result }
+    requires { asking M.algebra M.Measure.row M.span (length entries.now) asked (length table.old) ≡ Ok tt }
+    ensures { Starts M.algebra M.Measure.row M.span entries.now all asked table.old result }
 {
     write_table(entries, all, asked, table);
     let m = sought_size(asked.side, entries.len(), asked.size);
@@ -38,7 +38,7 @@ fn begin_accepted<'t, M: Measure>(
 
 // A finished Search of size 0.
 fn begin_refused<'t, M: Measure>(table: &'t mut [M]) -> Search<'t, M>
-    ensures { Stays algebra row span table.old result }
+    ensures { Stays M.algebra M.Measure.row M.span table.old result }
 {
     over(table, 0, 0, M::nothing(), M::nothing())
 }
@@ -51,7 +51,7 @@ pub fn begin_over<'t, M: Measure>(
     asked: Question<M>,
     table: &'t mut [M],
 ) -> Search<'t, M>
-    ensures { Begins algebra row span entries.now all asked table.old result }
+    ensures { Begins M.algebra M.Measure.row M.span entries.now all asked table.old result }
 {
     match judge(entries, asked, table.len()) {
         Ok(()) => begin_accepted(entries, all, asked, table),
@@ -65,7 +65,7 @@ pub fn begin<'t, M: Measure>(
     asked: Question<M>,
     table: &'t mut [M],
 ) -> Search<'t, M>
-    ensures { Answers algebra row span (standing roll.now) asked table.old result }
+    ensures { Answers M.algebra M.Measure.row M.span (standing roll.now) asked table.old result }
 {
     begin_over(roll.entries(), roll.total(), asked, table)
 }

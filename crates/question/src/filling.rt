@@ -29,7 +29,7 @@ fn next_column<M: Measure>(entries: &[Entry<M>], k: usize, start: usize, table: 
     requires room { start + (length entries.now - k + 1) + (length entries.now - k) ≤ length table.old }
     ensures next { result ≡ offset (length entries.now) k }
     ensures front { take result table.new ≡ take result table.old }
-    ensures laid { Few span entries.now → Laid algebra row span (rows_of row entries.now) (length entries.now) table.old result → Laid algebra row span (rows_of row entries.now) (length entries.now) table.new (offset (length entries.now) (k + 1)) }
+    ensures laid { Few M.span entries.now → Laid M.algebra M.Measure.row M.span (rows_of M.Measure.row entries.now) (length entries.now) table.old result → Laid M.algebra M.Measure.row M.span (rows_of M.Measure.row entries.now) (length entries.now) table.new (offset (length entries.now) (k + 1)) }
     ensures kept { drop (offset (length entries.now) (k + 1)) table.new ≡ drop (offset (length entries.now) (k + 1)) table.old }
 {
     let n = entries.len();
@@ -47,7 +47,7 @@ fn fill<M: Measure>(entries: &[Entry<M>], m: usize, table: &mut [M]) -> usize
     requires room { offset (length entries.now) m ≤ length table.old }
     ensures past { result ≡ offset (length entries.now) m }
     ensures first { take (length entries.now) table.new ≡ values entries.now }
-    ensures held { Few span entries.now → Holds algebra row span (length entries.now) m table.new }
+    ensures held { Few M.span entries.now → Holds M.algebra M.Measure.row M.span (length entries.now) m table.new }
     ensures kept { drop result table.new ≡ drop result table.old }
 {
     first_column(entries, table);
@@ -75,8 +75,8 @@ pub(crate) fn write_table<M: Measure>(
     asked: Question<M>,
     table: &mut [M],
 )
-    requires { asking algebra row span (length entries.now) asked (length table.old) ≡ Ok tt }
-    ensures { Written algebra row span entries.now all asked table.old table.new }
+    requires { asking M.algebra M.Measure.row M.span (length entries.now) asked (length table.old) ≡ Ok tt }
+    ensures { Written M.algebra M.Measure.row M.span entries.now all asked table.old table.new }
 {
     let m = sought_size(asked.side, entries.len(), asked.size);
     let at = fill(entries, m, table);

@@ -10,21 +10,21 @@ use measure::Measure;
 
 // Whether a stands before b: its value is not above b's, and of two equal values it has the smaller number.
 fn stands_before<M: Measure>(a: Entry<M>, b: Entry<M>) -> bool
-    ensures { result ≡ before (kind algebra row span) a b }
+    ensures { result ≡ before (kind M.algebra M.Measure.row M.span) a b }
 {
     a.value.not_above(b.value) && (!b.value.not_above(a.value) || a.number < b.number)
 }
 
 // Whether one of the two values is not above the other.
 fn either_way<M: Measure>(a: Entry<M>, b: Entry<M>) -> bool
-    ensures { result ≡ matched (kind algebra row span) a b }
+    ensures { result ≡ matched (kind M.algebra M.Measure.row M.span) a b }
 {
     a.value.not_above(b.value) || b.value.not_above(a.value)
 }
 
 // How many stand in front of the first that has the number; all, if none has it.
 pub(crate) fn find<M: Measure>(cells: &[Entry<M>], number: u32) -> usize
-    ensures { result ≡ seat (kind algebra row span) number cells.now }
+    ensures { result ≡ seat (kind M.algebra M.Measure.row M.span) number cells.now }
 {
     for i in 0..cells.len() {
         if cells[i].number == number {
@@ -36,7 +36,7 @@ pub(crate) fn find<M: Measure>(cells: &[Entry<M>], number: u32) -> usize
 
 // How many stand in front of the first that does not stand before the entry.
 pub(crate) fn place_of<M: Measure>(cells: &[Entry<M>], one: Entry<M>) -> usize
-    ensures { result ≡ place_for (kind algebra row span) one cells.now }
+    ensures { result ≡ place_for (kind M.algebra M.Measure.row M.span) one cells.now }
 {
     for i in 0..cells.len() {
         if !stands_before(cells[i], one) {
@@ -48,7 +48,7 @@ pub(crate) fn place_of<M: Measure>(cells: &[Entry<M>], one: Entry<M>) -> usize
 
 // Whether the entry can be compared with each that stands.
 pub(crate) fn compares<M: Measure>(cells: &[Entry<M>], one: Entry<M>) -> bool
-    ensures { result ≡ comparable (kind algebra row span) one cells.now }
+    ensures { result ≡ comparable (kind M.algebra M.Measure.row M.span) one cells.now }
 {
     for i in 0..cells.len() {
         if !either_way(one, cells[i]) {
@@ -71,7 +71,7 @@ pub(crate) fn pick<M: Measure>(cells: &[Entry<M>], place: usize) -> Option<Entry
 
 // What the entries come to.
 pub(crate) fn sum<M: Measure>(cells: &[Entry<M>]) -> M
-    ensures { Few span cells.now → Totals algebra row span cells.now result }
+    ensures { Few M.span cells.now → Totals M.algebra M.Measure.row M.span cells.now result }
 {
     let mut sum = M::nothing();
     for one in cells {

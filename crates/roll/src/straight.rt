@@ -24,7 +24,7 @@ pub struct Roll<'a, M> {
 
 // A roll on which nothing stands. Its most is 120 entries, or the count of cells if that is smaller.
 pub fn open<'a, M: Measure>(cells: &'a mut [Entry<M>]) -> Roll<'a, M>
-    ensures { Opened (kind algebra row span) (length cells.old) result }
+    ensures { Opened (kind M.algebra M.Measure.row M.span) (length cells.old) result }
 {
     Roll { cells, count: 0 }
 }
@@ -78,14 +78,14 @@ impl<'a, M: Measure> Roll<'a, M> {
 
     // What the entries that stand come to, where at most 120 stand and each has a span of at most 1.
     pub fn total(&self) -> M
-        ensures { Few span (standing self.now) → Totals algebra row span (standing self.now) result }
+        ensures { Few M.span (standing self.now) → Totals M.algebra M.Measure.row M.span (standing self.now) result }
     {
         sum(self.entries())
     }
 
     // The refusal that entering meets, if any.
     fn refusal(&self, one: Entry<M>) -> Result<(), Refusal>
-        ensures { result ≡ entering (kind algebra row span) (cells_of self.now) (standing self.now) one }
+        ensures { result ≡ entering (kind M.algebra M.Measure.row M.span) (cells_of self.now) (standing self.now) one }
     {
         let n = self.held();
         if !one.value.admitted() {
@@ -105,7 +105,7 @@ impl<'a, M: Measure> Roll<'a, M> {
 
     // Enters the entry at its place in the order, unless it meets a refusal.
     pub fn enter(&mut self, one: Entry<M>) -> Result<(), Refusal>
-        ensures { Entered (kind algebra row span) self.old one result self.new }
+        ensures { Entered (kind M.algebra M.Measure.row M.span) self.old one result self.new }
     {
         self.refusal(one)?;
         let n = self.held();
@@ -117,7 +117,7 @@ impl<'a, M: Measure> Roll<'a, M> {
 
     // Takes out the entry with the number and closes the gap, unless there is none.
     pub fn strike(&mut self, number: u32) -> Result<(), Refusal>
-        ensures { Struck (kind algebra row span) self.old number result self.new }
+        ensures { Struck (kind M.algebra M.Measure.row M.span) self.old number result self.new }
     {
         let n = self.held();
         let place = find(self.entries(), number);
@@ -134,11 +134,11 @@ impl<'a, M: Measure> Roll<'a, M> {
 // strikings take out, and nothing else changes; and the same numbers and rows stand in the same order, however they came
 // there.
 pub fn order_stands<M: Measure>(_like: &M) -> u8
-    ensures always { AlwaysKept (kind algebra row span) }
-    ensures ready { Ready algebra row span }
-    ensures adds { Adds (kind algebra row span) }
-    ensures takes { Takes (kind algebra row span) }
-    ensures settled { SameOrder (kind algebra row span) row }
+    ensures always { AlwaysKept (kind M.algebra M.Measure.row M.span) }
+    ensures ready { Ready M.algebra M.Measure.row M.span }
+    ensures adds { Adds (kind M.algebra M.Measure.row M.span) }
+    ensures takes { Takes (kind M.algebra M.Measure.row M.span) }
+    ensures settled { SameOrder (kind M.algebra M.Measure.row M.span) M.Measure.row }
 {
     0
 }

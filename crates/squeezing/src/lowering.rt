@@ -12,7 +12,7 @@ pub(crate) fn lower_totals<M: Measure>(table: &[M], n: usize, lo: &[u16], totals
     requires sized { offset n (length lo.now) ≤ length table.now }
     requires places { Places n lo.now }
     requires room { length lo.now < length totals.old }
-    ensures { Prefixes algebra row span n (length lo.now) table.now lo.now totals.new }
+    ensures { Prefixes M.algebra M.Measure.row M.span n (length lo.now) table.now lo.now totals.new }
 {
     totals[0] = M::nothing();
     for j in 0..lo.len() {
@@ -47,11 +47,11 @@ pub(crate) fn lower<M: Measure>(
     requires higher { Higher n hi.now }
     requires within { i < length lo.now }
     requires same { length hi.now ≡ length lo.now }
-    requires so_far { BackIs algebra row span n (length lo.now) table.now lo.now i (slice_index hi.now (i + 1) - 1) back.old.end back.old.after }
-    requires rest { Stands algebra row span n (length lo.now) table.now (take i lo.now) before }
+    requires so_far { BackIs M.algebra M.Measure.row M.span n (length lo.now) table.now lo.now i (slice_index hi.now (i + 1) - 1) back.old.end back.old.after }
+    requires rest { Stands M.algebra M.Measure.row M.span n (length lo.now) table.now (take i lo.now) before }
     ensures found { (v : ℕ) → result ≡ Some v → (slice_index lo.now i ≤ v) × (v ≤ slice_index hi.now i) × (i + 1 < length hi.now → v ≤ slice_index hi.now (i + 1) - 1) }
-    ensures place { Holds algebra row span n (length lo.now) table.now → result ≡ lowers algebra (entries row n table.now) (row high) lo.now hi.now (i + 1) }
-    ensures on { (v : ℕ) → result ≡ Some v → BackIs algebra row span n (length lo.now) table.now lo.now i v back.new.end back.new.after }
+    ensures place { Holds M.algebra M.Measure.row M.span n (length lo.now) table.now → result ≡ lowers M.algebra (entries M.Measure.row n table.now) (M.Measure.row high) lo.now hi.now (i + 1) }
+    ensures on { (v : ℕ) → result ≡ Some v → BackIs M.algebra M.Measure.row M.span n (length lo.now) table.now lo.now i v back.new.end back.new.after }
 {
     let mut v = hi[i];
     if i + 1 < hi.len() {

@@ -23,7 +23,7 @@ pub(crate) fn squeeze<M: Measure>(
     requires sized { offset n (length hi.old) ≤ length table.now }
     requires fair { Fair n lo.old hi.old }
     requires room { length hi.old < length room.old }
-    ensures { Squeezes (Holds algebra row span n (length hi.old) table.now) n lo.old hi.old lo.new hi.new (squeezes algebra (entries row n table.now) (row low) (row high) (widths lo.old hi.old) (space lo.old hi.old)) result }
+    ensures { Squeezes (Holds M.algebra M.Measure.row M.span n (length hi.old) table.now) n lo.old hi.old lo.new hi.new (squeezes M.algebra (entries M.Measure.row n table.now) (M.Measure.row low) (M.Measure.row high) (widths lo.old hi.old) (space lo.old hi.old)) result }
 {
     'passes: loop {
         upper_totals(table, n, hi, room);

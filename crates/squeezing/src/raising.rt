@@ -12,7 +12,7 @@ pub(crate) fn upper_totals<M: Measure>(table: &[M], n: usize, hi: &[u16], totals
     requires sized { offset n (length hi.now) ≤ length table.now }
     requires upper { Places n hi.now }
     requires room { length hi.now < length totals.old }
-    ensures { Suffixes algebra row span n (length hi.now) table.now hi.now totals.new }
+    ensures { Suffixes M.algebra M.Measure.row M.span n (length hi.now) table.now hi.now totals.new }
 {
     totals[hi.len()] = M::nothing();
     for j in (0..hi.len()).rev() {
@@ -47,11 +47,11 @@ pub(crate) fn raise<M: Measure>(
     requires lower { Lower n lo.now }
     requires within { i < length hi.now }
     requires same { length lo.now ≡ length hi.now }
-    requires so_far { FrontIs algebra row span n (length hi.now) table.now hi.now i (slice_index lo.now (i - 1) + 1) front.old.start front.old.before }
-    requires rest { Stands algebra row span n (length hi.now) table.now (drop (i + 1) hi.now) after }
+    requires so_far { FrontIs M.algebra M.Measure.row M.span n (length hi.now) table.now hi.now i (slice_index lo.now (i - 1) + 1) front.old.start front.old.before }
+    requires rest { Stands M.algebra M.Measure.row M.span n (length hi.now) table.now (drop (i + 1) hi.now) after }
     ensures found { (v : ℕ) → result ≡ Some v → (slice_index lo.now i ≤ v) × (0 < i → slice_index lo.now (i - 1) < v) × (v ≤ slice_index hi.now i) }
-    ensures place { Holds algebra row span n (length hi.now) table.now → result ≡ raises algebra (entries row n table.now) (row low) lo.now hi.now (i + 1) }
-    ensures on { (v : ℕ) → result ≡ Some v → FrontIs algebra row span n (length hi.now) table.now hi.now i v front.new.start front.new.before }
+    ensures place { Holds M.algebra M.Measure.row M.span n (length hi.now) table.now → result ≡ raises M.algebra (entries M.Measure.row n table.now) (M.Measure.row low) lo.now hi.now (i + 1) }
+    ensures on { (v : ℕ) → result ≡ Some v → FrontIs M.algebra M.Measure.row M.span n (length hi.now) table.now hi.now i v front.new.start front.new.before }
 {
     let mut v = lo[i];
     if i > 0 {

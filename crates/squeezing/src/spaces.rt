@@ -15,7 +15,7 @@ pub fn squeezed<M: Measure>(
     low: M,
     high: M,
 ) -> Option<Frame>
-    ensures { Leaves algebra row span table.now (length room.old) (row low) (row high) frame result }
+    ensures { Leaves M.algebra M.Measure.row M.span table.now (length room.old) (M.Measure.row low) (M.Measure.row high) frame result }
 {
     let Frame {
         n,

@@ -26,7 +26,7 @@ pub(crate) fn neighbours<M: Measure>(table: &[M], n: usize, first: usize, k: usi
     requires sized { offset n k ≤ length table.now }
     requires some { (1 ≤ first) × (1 ≤ k) }
     requires within { first + k ≤ n + 1 }
-    ensures { (m : ℕ) → k ≤ m → Stands algebra row span n m table.now (range_with_len first k) result }
+    ensures { (m : ℕ) → k ≤ m → Stands M.algebra M.Measure.row M.span n m table.now (range_with_len first k) result }
 {
     total_at(&table[column_start(n, k - 1)..], first - 1)
 }

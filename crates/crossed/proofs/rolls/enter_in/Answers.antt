@@ -14,7 +14,7 @@ insert-requires c =
     let ok = c.in-Ok.ensures ∙ ap (λ i. enters c.args.columns (length cells) (take i cells) c.args.one) z in
     let room : length (take n cells) < min 120 (length cells) = ok_room c.args.columns (length cells) (take n cells) c.args.one ok in
     let k : length (take n cells) ≡ n = length-take-le n cells c.requires in
-    let s = c.find-gap-index.ensures ∙ ap (λ i. insertion_point c.args.one.number (take i cells)) z in
+    let s = c.find_gap-index.ensures ∙ ap (λ i. insertion_point c.args.one.number (take i cells)) z in
     omega (arith, length-take-le (n + 1 - 0) cells (omega arith), first-within (λ x. not (ltb x.number c.args.one.number)) (take n cells))
 
 pub returns-in-Err : goal.returns-in-Err
@@ -38,7 +38,7 @@ returns-in-Ok c =
     let room : length (take n cells) < min 120 (length cells) = ok_room c.args.columns (length cells) (take n cells) c.args.one ok in
     let k : length (take n cells) ≡ n = length-take-le n cells c.requires in
     record {
-      answer = after_enter cells n c.requires c.args.columns c.find-gap-index.result c.args.one c.insert.new.cells (drop (n + 1 - 0) cells) ok (c.find-gap-index.ensures ∙ ap (λ i. insertion_point c.args.one.number (take i cells)) z) c.insert.ensures;
+      answer = after_enter cells n c.requires c.args.columns c.find_gap-index.result c.args.one c.insert.new.cells (drop (n + 1 - 0) cells) ok (c.find_gap-index.ensures ∙ ap (λ i. insertion_point c.args.one.number (take i cells)) z) c.insert.ensures;
       most = λ h. omega arith;
       untouched = λ q. absurd (true≢false q);
     }

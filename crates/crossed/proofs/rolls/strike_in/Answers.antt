@@ -21,7 +21,7 @@ returns c =
     let n = c.args.n in
     let z : n - 0 ≡ n = omega arith in
     record {
-      answer = after_strike cells n c.requires c.find-index.result c.args.number c.close-gap.new.cells (drop (n - 0) cells) (c.find-index.ensures ∙ ap (λ i. index_of c.args.number (take i cells)) z) c.if-index-n.false c.close-gap.auto.cells c.close-gap.ensures;
+      answer = after_strike cells n c.requires c.find-index.result c.args.number c.close_gap.new.cells (drop (n - 0) cells) (c.find-index.ensures ∙ ap (λ i. index_of c.args.number (take i cells)) z) c.if-index-n.false c.close_gap.auto.cells c.close_gap.ensures;
       most = omega arith;
       untouched = λ q. absurd (true≢false q);
     }

@@ -8,8 +8,8 @@ use Rattle.exploring.specs.Waiting.{explore_of, to_come}
 use Rattle.exploring.proofs.Stepping.{suited, step_none, step_set, step_open, root_same, first_item}
 use Rattle.exploring.proofs.examining.examine.Goals as goal
 
-pub returns-in-default : goal.returns-in-default
-returns-in-default g c =
+pub returns-in_default : goal.returns-in_default
+returns-in_default g c =
     let m = g.M.Measure in
     let table = c.args.table.now in
     let f = c.args.work.now.frontier in
@@ -28,15 +28,15 @@ returns-in-default g c =
       is = λ held.
           let long : 120 < length c.args.work.now.room = omega arith in
           let suits = suited m.algebra m.row m.span table (length c.args.work.now.room) f.root r told.same.1 told.same.0 c.requires.sized long held in
-          let head = step_none m.algebra m.row table low high r f.root.n told.same.1 (f.root.m - f1.depth) (c.in-default.ensures suits) in (
+          let head = step_none m.algebra m.row table low high r f.root.n told.same.1 (f.root.m - f1.depth) (c.in_default.ensures suits) in (
             first_item m.algebra m.row table low high f f1.depth (space_of r) None [] (to_come E f1) deep (told.items E) head
                 ∙ ap (λ l. None ∷ l) (root_same m.algebra m.row table low high f f1 told.root.0),
             refl,
           );
     }
 
-pub returns-in-default-first-open : goal.returns-in-default-first-open
-returns-in-default-first-open g c =
+pub returns-in_default-first_open : goal.returns-in_default-first_open
+returns-in_default-first_open g c =
     let m = g.M.Measure in
     let table = c.args.table.now in
     let f = c.args.work.now.frontier in
@@ -61,7 +61,7 @@ returns-in-default-first-open g c =
       is = λ held.
           let long : 120 < length c.args.work.now.room = omega arith in
           let suits = suited m.algebra m.row m.span table (length c.args.work.now.room) f.root r told.same.1 told.same.0 c.requires.sized long held in
-          let head = step_set m.algebra m.row table low high r f.root.n told.same.1 (f.root.m - f1.depth) t (c.in-Some.ensures.1 suits) c.in-default-first-open.ensures in (
+          let head = step_set m.algebra m.row table low high r f.root.n told.same.1 (f.root.m - f1.depth) t (c.in-Some.ensures.1 suits) c.in_default-first_open.ensures in (
             ps,
             first_item m.algebra m.row table low high f f1.depth (space_of r) (Some ps) [] (to_come E f1) deep (told.items E) head
                 ∙ ap (λ l. Some ps ∷ l) (root_same m.algebra m.row table low high f f1 told.root.0),
@@ -78,9 +78,9 @@ returns g c =
     let f2 = c.push.new.self in
     let r = c.take-space.result in
     let t = c.in-Some.left in
-    let i = c.in-Some-first-open.i in
+    let i = c.in-Some-first_open.i in
     let told = c.take-space.ensures in
-    let opens = c.in-Some-first-open.ensures in
+    let opens = c.in-Some-first_open.ensures in
     let low = m.row c.args.work.now.low in
     let high = m.row c.args.work.now.high in
     let E = explore_of m.algebra m.row f.root.n table low high in
@@ -111,10 +111,10 @@ pub push-requires : goal.push-requires
 push-requires g c =
     let f1 = c.take-space.new.self in
     let t = c.in-Some.left in
-    let i = c.in-Some-first-open.i in
+    let i = c.in-Some-first_open.i in
     let told = c.take-space.ensures in
     let left = c.in-Some.ensures.0 in
-    let opens = c.in-Some-first-open.ensures in
+    let opens = c.in-Some-first_open.ensures in
     record {
       old = told.root.1;
       same = (left.m ∙ told.same.0 ∙ ap (λ q. q.m) (sym told.root.0), left.n ∙ told.same.1 ∙ ap (λ q. q.n) (sym told.root.0));

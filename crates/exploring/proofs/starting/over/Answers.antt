@@ -3,16 +3,16 @@ use Rattle.exploring.specs.Waiting.{explore_of}
 use Rattle.exploring.proofs.Rooting.{fits-long, first-planned, begun_sound}
 use Rattle.exploring.proofs.starting.over.Goals as goal
 
-pub invariant-of-result : goal.invariant-of-result
-invariant-of-result g c =
-    let is = c.plan-over-frontier.ensures in
-    (fits-long c.args.n c.args.m (length c.args.table.now) _ _ is.count is.size, tt)
+pub invariant_of-result : goal.invariant_of-result
+invariant_of-result g c =
+    let is = c.plan_over-frontier.ensures in
+    record { long = fits-long c.args.n c.args.m (length c.args.table.now) _ _ is.count is.size }
 
 pub returns : goal.returns
 returns g c =
     let m = g.M.Measure in
-    let f = c.plan-over-frontier.result.root in
-    let is = c.plan-over-frontier.ensures in
+    let f = c.plan_over-frontier.result.root in
+    let is = c.plan_over-frontier.ensures in
     let low = m.row c.args.low in
     let high = m.row c.args.high in
     let table = c.args.table.now in

@@ -10,5 +10,5 @@ returns g c =
     record {
       all = c.total.result;
       totals = c.total.ensures;
-      begins = subst (λ xs. Begins m.algebra m.row m.span xs c.total.result c.args.asked c.args.table.now c.begin-over.result) c.entries.ensures c.begin-over.ensures;
+      begins = subst (λ xs. Begins m.algebra m.row m.span xs c.total.result c.args.asked c.args.table.now c.begin_over.result) c.entries.ensures c.begin_over.ensures;
     }

@@ -7,8 +7,8 @@ use Rattle.question.proofs.Agreeing.{front_kept, back_kept}
 use Rattle.question.proofs.Laying.{laid_first, laid_holds}
 use Rattle.question.proofs.filling.fill.Goals as goal
 
-pub first-column-requires : goal.first-column-requires
-first-column-requires g c = omega (arith, offset-past (length c.args.entries.now) c.args.m c.requires.some, c.requires.room)
+pub first_column-requires : goal.first_column-requires
+first_column-requires g c = omega (arith, offset-past (length c.args.entries.now) c.args.m c.requires.some, c.requires.room)
 
 pub loop-k-init : goal.loop-k-init
 loop-k-init g c =
@@ -16,13 +16,13 @@ loop-k-init g c =
     let met = g.met.M.Measure in
     let xs = c.args.entries.now in (
       sym (offset-zero (length xs)),
-      c.first-column.ensures.first,
-      (λ few. laid_first m.algebra met.lawful m.row m.span met.owned xs few c.first-column.new.table c.first-column.ensures.first),
+      c.first_column.ensures.first,
+      (λ few. laid_first m.algebra met.lawful m.row m.span met.owned xs few c.first_column.new.table c.first_column.ensures.first),
       refl,
     )
 
-pub next-column-start-requires : goal.next-column-start-requires
-next-column-start-requires g c =
+pub next_column-start-requires : goal.next_column-start-requires
+next_column-start-requires g c =
     let n = length c.args.entries.now in
     let k = c.loop-k.k in
     record {
@@ -38,10 +38,10 @@ loop-k-preserved g c =
     let xs = c.args.entries.now in
     let n = length xs in
     let k = c.loop-k.k in
-    let r = c.next-column-start.result in
+    let r = c.next_column-start.result in
     let was = c.loop-k.table in
-    let now_is = c.next-column-start.new.table in
-    let done = c.next-column-start.ensures in
+    let now_is = c.next_column-start.new.table in
+    let done = c.next_column-start.ensures in
     let same : k + 1 - 1 ≡ k = omega arith in (
       done.next ∙ ap (offset n) (sym same),
       front_kept n r now_is was (omega (arith, done.next, offset-past n k c.loop-k.auto.k)) done.front ∙ c.loop-k.invariant.1,
@@ -55,8 +55,8 @@ ended n m k start some most from upto all at =
     let same : k ≡ m = omega arith in
     omega (arith, at, ap (λ j. offset n (j - 1)) same, offset-from n m some most)
 
-pub overflow-add-result-2 : goal.overflow-add-result-2
-overflow-add-result-2 g c =
+pub overflow_add-result-2 : goal.overflow_add-result-2
+overflow_add-result-2 g c =
     let e = ended (length c.args.entries.now) c.args.m c.loop-k.k c.loop-k.start c.requires.some c.requires.most c.loop-k.auto.k (c.loop-k.auto.k-end c.requires.some) c.loop-k-test.false c.loop-k.invariant.0 in
     let h = c.requires.room in
     search rules
@@ -71,7 +71,7 @@ returns g c =
     let past = offset-past n c.args.m c.requires.some in
     let e = ended n c.args.m c.loop-k.k c.loop-k.start c.requires.some c.requires.most c.loop-k.auto.k (c.loop-k.auto.k-end c.requires.some) c.loop-k-test.false c.loop-k.invariant.0 in
     let behind : drop (offset n c.args.m) table ≡ drop (offset n c.args.m) c.args.table.now =
-    c.loop-k.invariant.3 ∙ back_kept n (offset n c.args.m) c.first-column.new.table c.args.table.now past c.first-column.ensures.kept in
+    c.loop-k.invariant.3 ∙ back_kept n (offset n c.args.m) c.first_column.new.table c.args.table.now past c.first_column.ensures.kept in
     record {
       past = e;
       first = c.loop-k.invariant.1;

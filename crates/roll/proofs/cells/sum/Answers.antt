@@ -9,7 +9,7 @@ loop-one-preserved g c =
     let m = g.M.Measure in
     let met = g.met.M.Measure in
     let xs = c.args.cells.now in
-    let i = c.loop-one.one_Index in
+    let i = c.loop-one.one-index in
     let x = c.one-item.result in
     let inv = c.loop-one.invariant in
     let small : Few m.span xs → m.span c.loop-one.sum + m.span x.value ≤ i + 1 = λ few. omega (arith, inv.2 few, few-at m.span xs i x c.loop-one-test.true c.one-item.is few) in
@@ -25,6 +25,6 @@ returns g c = λ few.
     let xs = c.args.cells.now in
     let inv = c.loop-one.invariant in
     record {
-      exact = inv.1 few ∙ ap (sums m.algebra m.row) (take_all c.loop-one.one_Index xs c.loop-one-test.false) ∙ all_places m.algebra m.row xs;
+      exact = inv.1 few ∙ ap (sums m.algebra m.row) (take_all c.loop-one.one-index xs c.loop-one-test.false) ∙ all_places m.algebra m.row xs;
       small = omega (arith, inv.2 few, inv.0);
     }

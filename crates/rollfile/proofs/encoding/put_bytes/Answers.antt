@@ -8,5 +8,5 @@ returns c =
     let at = c.args.at in
     let bs = c.args.bytes.now in
     let k = at + length bs - at in
-    ap (λ ys. take at out ++ (ys ++ drop k (drop at out))) c.copy-from-slice.ensures.after
+    ap (λ ys. take at out ++ (ys ++ drop k (drop at out))) c.copy_from_slice.ensures.after
     ∙ ap (λ z. take at out ++ (bs ++ z)) (drop-drop k at out ∙ ap (λ n. drop n out) (omega arith))

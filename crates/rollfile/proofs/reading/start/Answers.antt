@@ -37,7 +37,7 @@ returns-in-Some c =
     let q = sym (ap (λ o. told (Ok o)) is) ∙ c.in-Ok.ensures.answer ∙ ap (next_of bs) c.requires in
     let at = c.in-Ok.ensures.place ∙ ap (λ o. moved bs was.place (told (Ok o))) is ∙ ap (λ n. moved bs n (Ok (Some r))) c.requires in
     record {
-      answer = c.columns-in.ensures ∙ ap (λ r. then r headed) q;
+      answer = c.columns_in.ensures ∙ ap (λ r. then r headed) q;
       behind = λ e. first-behind bs _ (Some r) (sym q) at c.in-Ok.ensures.file;
       file = c.in-Ok.ensures.file;
     }

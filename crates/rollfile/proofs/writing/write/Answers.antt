@@ -34,10 +34,10 @@ returns c =
     let many = ap length es in
     let size : 2 + 37 * length c.entries-entries.result.now ≡ length bs = omega arith in
     let h : length bs ≤ length out = omega arith in
-    let head : c.put-bytes.new.out ≡ over out 0 (heading_bytes r.columns) = c.put-bytes.ensures ∙ ap (over out 0) (c.heading-of.ensures ∙ ap heading_bytes c.columns.ensures) in
-    let all : c.put-entries.new.out ≡ over out 0 bs = over-then out c.put-bytes.new.out c.put-entries.new.out 0 2 (heading_bytes r.columns) (flat_map entry_bytes xs) (flat_map entry_bytes c.entries-entries.result.now) head c.put-entries.ensures (ap (flat_map entry_bytes) es) refl (omega arith) in
+    let head : c.put_bytes.new.out ≡ over out 0 (heading_bytes r.columns) = c.put_bytes.ensures ∙ ap (over out 0) (c.heading_of.ensures ∙ ap heading_bytes c.columns.ensures) in
+    let all : c.put_entries.new.out ≡ over out 0 bs = over-then out c.put_bytes.new.out c.put_entries.new.out 0 2 (heading_bytes r.columns) (flat_map entry_bytes xs) (flat_map entry_bytes c.entries-entries.result.now) head c.put_entries.ensures (ap (flat_map entry_bytes) es) refl (omega arith) in
     record {
       answer = ap Ok size ∙ sym (cond-false _ _ _ (le-ltb (length out) (length bs) h));
       output = all ∙ sym (cond-false _ _ _ (le-ltb (length out) (length bs) h));
-      reads_back = λ was n room. written_back r.columns xs out c.put-entries.new.out was h all _ n room size;
+      reads_back = λ was n room. written_back r.columns xs out c.put_entries.new.out was h all _ n room size;
     }

@@ -7,7 +7,7 @@ use Rattle.squeezing.proofs.RaisingPass.{Swept, raise_from_none, raise_from_some
 use Rattle.squeezing.proofs.Squeezed.{places-higher, swept_places, passed, still-same, moved_less, moved_other, pass_no_rise, pass_no_fall, squeeze_none, squeeze-still, squeeze-more}
 use Rattle.squeezing.proofs.passes.squeeze.Given.{Over}
 use Rattle.squeezing.proofs.passes.squeeze.Goals as goal
-use Rattle.squeezing.proofs.passes.squeeze.Goals.{After-lower-totals, After-lowering}
+use Rattle.squeezing.proofs.passes.squeeze.Goals.{After-lower_totals, After-lowering}
 
 pub passes-init : goal.passes-init
 passes-init g c = (c.requires.fair, refl, (λ j. omega arith), (λ j. omega arith), (widths c.args.lo.now c.args.hi.now, omega arith, λ held. refl))
@@ -33,7 +33,7 @@ raising-preserved g c =
     )
 
 -- all positions were raised
-swept : (g : Over) (c : After-lower-totals g) → Swept (Holds g.M.Measure.algebra g.M.Measure.row g.M.Measure.span c.args.n (length c.args.hi.now) c.args.table.now) c.args.n c.passes.hi c.passes.lo c.raising.lo (raise_from g.M.Measure.algebra (entries g.M.Measure.row c.args.n c.args.table.now) (g.M.Measure.row c.args.low) c.passes.hi 1 (length c.passes.hi) c.passes.lo) c.raising.rose
+swept : (g : Over) (c : After-lower_totals g) → Swept (Holds g.M.Measure.algebra g.M.Measure.row g.M.Measure.span c.args.n (length c.args.hi.now) c.args.table.now) c.args.n c.passes.hi c.passes.lo c.raising.lo (raise_from g.M.Measure.algebra (entries g.M.Measure.row c.args.n c.args.table.now) (g.M.Measure.row c.args.low) c.passes.hi 1 (length c.passes.hi) c.passes.lo) c.raising.rose
 swept g c =
     let m = g.M.Measure in
     let xs = entries m.row c.args.n c.args.table.now in
@@ -64,7 +64,7 @@ lowering-preserved g c =
     let i = c.lowering.i - 1 in
     let v = c.in-Some-lower.v in
     let inv = c.lowering.invariant in
-    let places = swept_places _ c.args.n c.passes.hi c.passes.lo lo _ c.raising.rose (swept g (goal.at.lowering-preserved g c).After-lower-totals) in
+    let places = swept_places _ c.args.n c.passes.hi c.passes.lo lo _ c.raising.rose (swept g (goal.at.lowering-preserved g c).After-lower_totals) in
     let within : i < length hi = omega (arith, inv.0) in
     let found = c.in-Some-lower.ensures.found v refl in
     let some : 1 ≤ v = omega (arith, found.0, places.least i (omega arith)) in
@@ -89,8 +89,8 @@ sunk g c =
     let end : c.lowering.i ≡ 0 = omega (arith, c.lowering-test.false) in
     sunk_all m.algebra xs (m.row c.args.high) _ c.args.n c.raising.lo c.passes.hi c.lowering.hi c.lowering.i c.lowering.fell end inv.0 inv.1 inv.2 inv.3 (λ held. inv.5 (subst (λ q. Holds m.algebra m.row m.span c.args.n q c.args.table.now) (sym (c.raising.invariant.0 ∙ c.passes.invariant.1)) held))
 
-pub returns-in-default : goal.returns-in-default
-returns-in-default g c =
+pub returns-in_default : goal.returns-in_default
+returns-in_default g c =
     let m = g.M.Measure in
     let xs = entries m.row c.args.n c.args.table.now in
     let low = m.row c.args.low in
@@ -99,20 +99,20 @@ returns-in-default g c =
     let i = c.raising.i in
     λ held.
     let here = subst (λ q. Holds m.algebra m.row m.span c.args.n q c.args.table.now) (sym c.passes.invariant.1) held in
-    let none = c.raising.invariant.5 here ∙ raise_from_none m.algebra xs low hi (i + 1) (length hi - i) c.raising.lo (omega arith) (sym (c.in-default.ensures.place here)) in
+    let none = c.raising.invariant.5 here ∙ raise_from_none m.algebra xs low hi (i + 1) (length hi - i) c.raising.lo (omega arith) (sym (c.in_default.ensures.place here)) in
     c.passes.invariant.4.2 held ∙ squeeze_none m.algebra xs low high c.passes.invariant.4.0 (space c.passes.lo hi) (pass_no_rise m.algebra xs low high c.passes.lo hi none)
 
-pub returns-in-default-lower : goal.returns-in-default-lower
-returns-in-default-lower g c =
+pub returns-in_default-lower : goal.returns-in_default-lower
+returns-in_default-lower g c =
     let m = g.M.Measure in
     let xs = entries m.row c.args.n c.args.table.now in
     let low = m.row c.args.low in
     let high = m.row c.args.high in
     let lo = c.raising.lo in
-    let at = (goal.at.returns-in-default-lower g c).After-lower-totals in
+    let at = (goal.at.returns-in_default-lower g c).After-lower_totals in
     λ held.
     let here = subst (λ q. Holds m.algebra m.row m.span c.args.n q c.args.table.now) (sym (c.raising.invariant.0 ∙ c.passes.invariant.1)) held in
-    let none = c.lowering.invariant.5 here ∙ lower_from_none m.algebra xs high lo (c.lowering.i - 1) c.lowering.i c.lowering.hi (omega arith) (sym (c.in-default-lower.ensures.place here)) in
+    let none = c.lowering.invariant.5 here ∙ lower_from_none m.algebra xs high lo (c.lowering.i - 1) c.lowering.i c.lowering.hi (omega arith) (sym (c.in_default-lower.ensures.place here)) in
     c.passes.invariant.4.2 held ∙ squeeze_none m.algebra xs low high c.passes.invariant.4.0 (space c.passes.lo c.passes.hi) (pass_no_fall m.algebra xs low high c.passes.lo c.passes.hi lo ((swept g at).found held) none)
 
 pub returns-then-not-rose-fell : goal.returns-then-not-rose-fell
@@ -120,7 +120,7 @@ returns-then-not-rose-fell g c =
     let m = g.M.Measure in
     let xs = entries m.row c.args.n c.args.table.now in
     let at = goal.at.returns-then-not-rose-fell g c in
-    let p = passed m.algebra xs (m.row c.args.low) (m.row c.args.high) _ c.args.n c.passes.lo c.passes.hi c.raising.lo c.lowering.hi c.raising.rose c.lowering.fell (swept g at.After-lower-totals) (sunk g at.After-lowering) in
+    let p = passed m.algebra xs (m.row c.args.low) (m.row c.args.high) _ c.args.n c.passes.lo c.passes.hi c.raising.lo c.lowering.hi c.raising.rose c.lowering.fell (swept g at.After-lower_totals) (sunk g at.After-lowering) in
     let rose = c.raising.invariant.3 in
     let fell = c.lowering.invariant.3 in
     let same = still-same c.raising.rose c.lowering.fell c.passes.lo c.raising.lo c.passes.hi c.lowering.hi c.if-not-rose-fell.true rose fell in (
@@ -135,7 +135,7 @@ passes-smaller g c =
     let m = g.M.Measure in
     let xs = entries m.row c.args.n c.args.table.now in
     let at = goal.at.passes-smaller g c in
-    let p = passed m.algebra xs (m.row c.args.low) (m.row c.args.high) _ c.args.n c.passes.lo c.passes.hi c.raising.lo c.lowering.hi c.raising.rose c.lowering.fell (swept g at.After-lower-totals) (sunk g at.After-lowering) in
+    let p = passed m.algebra xs (m.row c.args.low) (m.row c.args.high) _ c.args.n c.passes.lo c.passes.hi c.raising.lo c.lowering.hi c.raising.rose c.lowering.fell (swept g at.After-lower_totals) (sunk g at.After-lowering) in
     moved_less c.args.n c.raising.rose c.lowering.fell c.passes.lo c.raising.lo c.passes.hi c.lowering.hi c.if-not-rose-fell.false c.raising.invariant.3 c.lowering.invariant.3 p.1
 
 pub passes-preserved : goal.passes-preserved
@@ -143,7 +143,7 @@ passes-preserved g c =
     let m = g.M.Measure in
     let xs = entries m.row c.args.n c.args.table.now in
     let at = goal.at.passes-preserved g c in
-    let p = passed m.algebra xs (m.row c.args.low) (m.row c.args.high) _ c.args.n c.passes.lo c.passes.hi c.raising.lo c.lowering.hi c.raising.rose c.lowering.fell (swept g at.After-lower-totals) (sunk g at.After-lowering) in
+    let p = passed m.algebra xs (m.row c.args.low) (m.row c.args.high) _ c.args.n c.passes.lo c.passes.hi c.raising.lo c.lowering.hi c.raising.rose c.lowering.fell (swept g at.After-lower_totals) (sunk g at.After-lowering) in
     let rose = c.raising.invariant.3 in
     let fell = c.lowering.invariant.3 in
     let less = moved_less c.args.n c.raising.rose c.lowering.fell c.passes.lo c.raising.lo c.passes.hi c.lowering.hi c.if-not-rose-fell.false rose fell p.1 in

@@ -7,8 +7,8 @@ use Rattle.squeezing.proofs.raising.raise.Given.{Over}
 use Rattle.squeezing.proofs.raising.raise.Goals as goal
 use Rattle.squeezing.proofs.raising.raise.Goals.{After-plus-sum, then-held-test+else-hi-front, else-held-test}
 
-pub overflow-add-front : goal.overflow-add-front
-overflow-add-front g c = omega arith
+pub overflow_add-front : goal.overflow_add-front
+overflow_add-front g c = omega arith
 
 pub held-preserved : goal.held-preserved
 held-preserved g c =
@@ -23,11 +23,11 @@ sum-stands g c =
     λ h. elim c.held-test.branch [ then-held-test+else-hi-front w ↦ w.if-hi-front.false | else-held-test w ↦ omega (arith, w.held-test) ] in
     raised-stands m.algebra g.met.M.Measure.lawful m.row m.span g.met.M.Measure.owned c.args.n (length c.args.hi.now) c.args.table.now c.requires.small c.args.hi.now c.requires.upper c.args.i c.held.front.start c.places.v c.held.front.before c.neighbours-run.result c.args.after c.plus.result c.plus-sum.result c.requires.within c.places.invariant.0 (omega arith) free c.held.invariant (c.neighbours-run.ensures (length c.args.hi.now) (omega arith)) c.requires.rest (λ h. (c.plus.ensures.exact h, c.plus.ensures.small h)) (λ h. (c.plus-sum.ensures.exact h, c.plus-sum.ensures.small h))
 
-pub returns-then-not-above : goal.returns-then-not-above
-returns-then-not-above g c =
+pub returns-then-not_above : goal.returns-then-not_above
+returns-then-not_above g c =
     let m = g.M.Measure in
-    let st = sum-stands g (goal.at.returns-then-not-above g c).After-plus-sum in
-    let yes_here = λ (held : Holds m.algebra m.row m.span c.args.n (length c.args.hi.now) c.args.table.now). sym (ap (m.algebra.not_above (m.row c.args.low)) (st.stood held).row_is) ∙ sym c.not-above.ensures ∙ c.if-not-above.true in
+    let st = sum-stands g (goal.at.returns-then-not_above g c).After-plus-sum in
+    let yes_here = λ (held : Holds m.algebra m.row m.span c.args.n (length c.args.hi.now) c.args.table.now). sym (ap (m.algebra.not_above (m.row c.args.low)) (st.stood held).row_is) ∙ sym c.not_above.ensures ∙ c.if-not_above.true in
     record {
       found = λ v e. let same : c.places.v ≡ v = cc in rw (sym same) (c.places.invariant.1, c.places.invariant.2, omega arith);
       place = λ held. sym (c.places.invariant.4 held ∙ least_to_here _ c.places.v (get_or c.args.hi.now c.args.i 0) (omega arith) (yes_here held));
@@ -38,7 +38,7 @@ pub places-preserved : goal.places-preserved
 places-preserved g c =
     let m = g.M.Measure in
     let st = sum-stands g (goal.at.places-preserved g c).After-plus-sum in
-    let not_here = λ (held : Holds m.algebra m.row m.span c.args.n (length c.args.hi.now) c.args.table.now). sym (ap (m.algebra.not_above (m.row c.args.low)) (st.stood held).row_is) ∙ sym c.not-above.ensures ∙ c.if-not-above.false in (
+    let not_here = λ (held : Holds m.algebra m.row m.span c.args.n (length c.args.hi.now) c.args.table.now). sym (ap (m.algebra.not_above (m.row c.args.low)) (st.stood held).row_is) ∙ sym c.not_above.ensures ∙ c.if-not_above.false in (
       omega arith,
       omega arith,
       λ h. omega (arith, c.places.invariant.2 h),

@@ -6,11 +6,11 @@ use Rattle.std.proofs.lemmas.List.{take_at, length-take-le}
 use Rattle.squeezing.proofs.Framing.{framed_fair, fair_framed, frame_fits, kept-settled}
 use Rattle.squeezing.proofs.spaces.squeezed.Goals as goal
 
-pub column-start-requires : goal.column-start-requires
-column-start-requires g c = let f = c.args.frame in (f.few, frame_fits f.n f.m f.lo f.hi f.roomy f.under f.upto)
+pub column_start-requires : goal.column_start-requires
+column_start-requires g c = let f = c.args.frame in (f.few, frame_fits f.n f.m f.lo f.hi f.roomy f.under f.upto)
 
-pub returns-then-table-column-start : goal.returns-then-table-column-start
-returns-then-table-column-start g c = λ suits. absurd (omega (arith, suits.long, c.column-start.ensures))
+pub returns-then-table-column_start : goal.returns-then-table-column_start
+returns-then-table-column_start g c = λ suits. absurd (omega (arith, suits.long, c.column_start.ensures))
 
 pub returns-then-room-m : goal.returns-then-room-m
 returns-then-room-m g c = λ suits. absurd (omega (arith, suits.roomy))
@@ -24,13 +24,13 @@ squeeze-requires g c =
     let many : length (take f.m f.hi) ≡ f.m = length-take-le f.m f.hi (omega (arith, f.small)) in
     record {
       small = f.few;
-      sized = rw (sub-zero, many) (omega (arith, c.column-start.ensures));
+      sized = rw (sub-zero, many) (omega (arith, c.column_start.ensures));
       fair = rw sub-zero fair;
       room = rw sub-zero (omega (arith, many));
     }
 
-pub invariant-of-result : goal.invariant-of-result
-invariant-of-result g c =
+pub invariant_of-result : goal.invariant_of-result
+invariant_of-result g c =
     let f = c.args.frame in
     let low : length f.lo ≡ 120 = omega arith in
     let high : length f.hi ≡ 120 = omega arith in
@@ -38,7 +38,7 @@ invariant-of-result g c =
     let many_lo : length c.squeeze.new.lo ≡ f.m = c.squeeze.auto.lo ∙ ap (λ k. length (take k f.lo)) z ∙ length-take-le f.m f.lo (omega (arith, f.small)) in
     let many_hi : length c.squeeze.new.hi ≡ f.m = c.squeeze.auto.hi ∙ ap (λ k. length (take k f.hi)) z ∙ length-take-le f.m f.hi (omega (arith, f.small)) in
     let facts = fair_framed f.n f.m c.squeeze.new.lo c.squeeze.new.hi (drop (f.m - 0) f.lo) (drop (f.m - 0) f.hi) many_lo many_hi c.if-squeeze.ensures.1 in
-    (f.small, (facts.0, (facts.1, (facts.2, (facts.3, (facts.4, (f.few, tt)))))))
+    record { small = f.small; roomy = facts.0; lows = facts.1; highs = facts.2; under = facts.3; upto = facts.4; few = f.few }
 
 pub returns-then-squeeze : goal.returns-then-squeeze
 returns-then-squeeze g c =

@@ -14,16 +14,16 @@ returns-in-Ok c =
     let xs = standing r in
     let m = c.in-Ok.m in
     let made = c.in-Ok.ensures.answer ∙ ap (λ l. if_ok (enters r.columns (length cells) l e) (put e l)) c.held-n.ensures.front in
-    let ok = after_ok (enters r.columns (length cells) xs e) (put e xs) (take m c.enter-in.new.cells) made in
+    let ok = after_ok (enters r.columns (length cells) xs e) (put e xs) (take m c.enter_in.new.cells) made in
     let fit : e.number < 2 ^ 32 = search rules in
     let few : min 120 m ≡ m = omega (arith, c.in-Ok.ensures.most c.held-n.ensures.most) in
-    let left : take (min 120 m) c.enter-in.new.cells ≡ entered r.columns (length cells) xs e = ap (λ i. take i c.enter-in.new.cells) few ∙ ok.1 ∙ ap (λ q. cond (is_ok q) (put e xs) xs) ok.0 in
+    let left : take (min 120 m) c.enter_in.new.cells ≡ entered r.columns (length cells) xs e = ap (λ i. take i c.enter_in.new.cells) few ∙ ok.1 ∙ ap (λ q. cond (is_ok q) (put e xs) xs) ok.0 in
     record {
       answer = ok.0;
       stands = left;
       sound = λ was. subst (Reachable r.columns) (sym left) (by_enter (length cells) e fit was);
       columns = refl;
-      room = c.enter-in.auto.cells;
+      room = c.enter_in.auto.cells;
       untouched = λ q. absurd (true≢false q);
     }
 
@@ -36,7 +36,7 @@ returns-in-Err c =
     let made = c.in-Err.ensures.answer ∙ ap (λ l. if_ok (enters r.columns (length cells) l e) (put e l)) c.held-n.ensures.front in
     let no = after_err (enters r.columns (length cells) xs e) (put e xs) c.in-Err.refusal made in
     let same = c.in-Err.ensures.untouched refl in
-    let stays : take (min 120 r.count) c.enter-in.new.cells ≡ xs = ap (take (min 120 r.count)) same in
+    let stays : take (min 120 r.count) c.enter_in.new.cells ≡ xs = ap (take (min 120 r.count)) same in
     record {
       answer = no;
       stands = stays ∙ ap (λ q. cond (is_ok q) (put e xs) xs) no;

@@ -14,15 +14,15 @@ returns-in-Ok c =
     let xs = standing r in
     let m = c.in-Ok.m in
     let made = c.in-Ok.ensures.answer ∙ ap (λ l. if_ok (strikes l e) (without e l)) c.held-n.ensures.front in
-    let ok = after_ok (strikes xs e) (without e xs) (take m c.strike-in.new.cells) made in
+    let ok = after_ok (strikes xs e) (without e xs) (take m c.strike_in.new.cells) made in
     let few : min 120 m ≡ m = omega (arith, c.in-Ok.ensures.most, c.held-n.ensures.most) in
-    let left : take (min 120 m) c.strike-in.new.cells ≡ struck xs e = ap (λ i. take i c.strike-in.new.cells) few ∙ ok.1 ∙ ap (λ q. cond (is_ok q) (without e xs) xs) ok.0 in
+    let left : take (min 120 m) c.strike_in.new.cells ≡ struck xs e = ap (λ i. take i c.strike_in.new.cells) few ∙ ok.1 ∙ ap (λ q. cond (is_ok q) (without e xs) xs) ok.0 in
     record {
       answer = ok.0;
       stands = left;
       sound = λ was. subst (Reachable r.columns) (sym left) (by_strike e was);
       columns = refl;
-      room = c.strike-in.auto.cells;
+      room = c.strike_in.auto.cells;
       untouched = λ q. absurd (true≢false q);
     }
 
@@ -35,7 +35,7 @@ returns-in-Err c =
     let made = c.in-Err.ensures.answer ∙ ap (λ l. if_ok (strikes l e) (without e l)) c.held-n.ensures.front in
     let no = after_err (strikes xs e) (without e xs) c.in-Err.refusal made in
     let same = c.in-Err.ensures.untouched refl in
-    let stays : take (min 120 r.count) c.strike-in.new.cells ≡ xs = ap (take (min 120 r.count)) same in
+    let stays : take (min 120 r.count) c.strike_in.new.cells ≡ xs = ap (take (min 120 r.count)) same in
     record {
       answer = no;
       stands = stays ∙ ap (λ q. cond (is_ok q) (without e xs) xs) no;

@@ -16,8 +16,8 @@ insert-requires g c =
     let cells = c.args.self.now.cells.now in
     let xs = standing c.args.self.now in
     let n = c.held-n.result in
-    let h = ok_room k (length cells) xs c.args.one c.in-ok-refusal.ensures in
-    let placed = said_of (place k c.args.one) c.place-of-place.ensures c.entries.ensures in
+    let h = ok_room k (length cells) xs c.args.one c.in_ok-refusal.ensures in
+    let placed = said_of (place k c.args.one) c.place_of-place.ensures c.entries.ensures in
     omega (arith, length-take-le (n + 1 - 0) cells (omega arith), first-within (λ x. not (before k x c.args.one)) xs)
 
 pub returns : goal.returns
@@ -27,10 +27,10 @@ returns g c =
     let cells = c.args.self.now.cells.now in
     let xs = standing c.args.self.now in
     let n = c.held-n.result in
-    let ok = c.in-ok-refusal.ensures in
+    let ok = c.in_ok-refusal.ensures in
     let h = ok_room k (length cells) xs c.args.one ok in
-    let placed = said_of (place k c.args.one) c.place-of-place.ensures c.entries.ensures in
-    let left = after_enter k cells c.args.self.now.count n c.held-n.ensures.front c.held-n.ensures.size c.place-of-place.result c.args.one c.insert.new.cells (drop (n + 1 - 0) cells) ok placed c.insert.ensures in
+    let placed = said_of (place k c.args.one) c.place_of-place.ensures c.entries.ensures in
+    let left = after_enter k cells c.args.self.now.count n c.held-n.ensures.front c.held-n.ensures.size c.place_of-place.result c.args.one c.insert.new.cells (drop (n + 1 - 0) cells) ok placed c.insert.ensures in
     record {
       book = record { answer = ok; after = left };
       cells = room-kept cells c.insert.new.cells (n + 1 - 0) (omega arith) c.insert.auto.cells;

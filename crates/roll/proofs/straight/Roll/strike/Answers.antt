@@ -34,10 +34,10 @@ returns g c =
     let n = c.held-n.result in
     let held = c.held-n.ensures in
     let seated = said_of (seat k c.args.number) c.find-place.ensures c.entries.ensures in
-    let left = after_strike k cells c.args.self.now.count n held.front held.size c.find-place.result c.args.number c.close-gap.new.cells (drop (n - 0) cells) seated c.if-place-n.false held.within c.close-gap.auto.cells c.close-gap.ensures in
+    let left = after_strike k cells c.args.self.now.count n held.front held.size c.find-place.result c.args.number c.close_gap.new.cells (drop (n - 0) cells) seated c.if-place-n.false held.within c.close_gap.auto.cells c.close_gap.ensures in
     record {
       book = record { answer = strikes k xs c.args.number _ _ seated held.size c.if-place-n.false; after = left };
-      cells = room-kept cells c.close-gap.new.cells (n - 0) (omega arith) c.close-gap.auto.cells;
+      cells = room-kept cells c.close_gap.new.cells (n - 0) (omega arith) c.close_gap.auto.cells;
       untouched = λ q. absurd (true≢false q);
       kept = λ was. subst (Kept k) (sym left) (without-kept k c.args.number xs was);
     }
