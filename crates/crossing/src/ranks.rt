@@ -1,7 +1,7 @@
 // Ranks beside shadowed columns: what a crossed Search adds up and compares.
 ghost use Rattle.std.specs.Prelude.{◌≡◌, ◌≤◌, ◌∷◌, pos, ◌+ℤ◌, ◌-ℤ◌, ◌*ℤ◌};
 ghost use Rattle.std.specs.Int.{int_max};
-ghost use Rattle.sets.specs.Crossed.{part_by_part, shadow as shadow-of};
+ghost use Rattle.sets.specs.Crossed.{part_by_part, shadow as shadow_of};
 ghost use Rattle.crossing.specs.Ranks.{rank_row, row_of, rows_of, Fallen, Small, Bounded, Each, Ranged, Falls};
 
 use crossed::entries::{Amounts, Entry};
@@ -87,7 +87,7 @@ fn shadowed(amount: i64, fall: i64, rank: u32) -> i64
 
 // A rank beside the shadowed columns.
 pub(crate) fn shadow(falls: Amounts, rank: u32, a: Amounts) -> Ranked
-    ensures { Each Fallen falls → Each Bounded a → rank ≤ 7260 → rank_row result ≡ shadow-of (row_of falls) rank (row_of a) }
+    ensures { Each Fallen falls → Each Bounded a → rank ≤ 7260 → rank_row result ≡ shadow_of (row_of falls) rank (row_of a) }
 {
     ranked(
         i64::from(rank),

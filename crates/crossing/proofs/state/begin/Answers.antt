@@ -5,8 +5,8 @@ use Rattle.crossing.specs.Beginning.{Fits, BeginsBy, Starts}
 use Rattle.crossing.proofs.Accepting.{accepted_fits, ranged}
 use Rattle.crossing.proofs.state.begin.Goals as goal
 
-pub begin-accepted-requires : goal.begin-accepted-requires
-begin-accepted-requires c =
+pub begin_accepted-requires : goal.begin_accepted-requires
+begin_accepted-requires c =
     let roll = c.args.roll.now in
     let few : length (standing roll) ≤ 120 = omega (arith, length-take (min 120 roll.count) roll.cells.now) in
     subst (λ xs. Fits (length xs) c.args.asked (length c.args.table.now)) (sym c.entries.ensures)
@@ -15,6 +15,6 @@ begin-accepted-requires c =
 pub returns-in-Ok : goal.returns-in-Ok
 returns-in-Ok c =
     let roll = c.args.roll.now in
-    let s = c.begin-accepted.result in
-    let starts = subst (λ xs. (Ranged xs → Starts xs c.args.asked c.args.table.now s)) c.entries.ensures c.begin-accepted.ensures in
+    let s = c.begin_accepted.result in
+    let starts = subst (λ xs. (Ranged xs → Starts xs c.args.asked c.args.table.now s)) c.entries.ensures c.begin_accepted.ensures in
     subst (BeginsBy roll.columns (standing roll) c.args.asked c.args.table.now s) c.in-Ok.ensures (λ well. starts (ranged roll.columns (standing roll) well))

@@ -14,15 +14,15 @@ returns c = λ ranged.
     let was = c.args.table.now in
     let α = c.falls-falls.result in
     let are = c.falls-falls.ensures ranged in
-    let course = c.course-of-course.result in
-    let is : course ≡ course_of α q (length xs) q.size = c.course-of-course.ensures c.requires.few (omega (arith, c.requires.few, c.requires.most)) in
-    let s = c.over-shadows-straight.result in
+    let course = c.course_of-course.result in
+    let is : course ≡ course_of α q (length xs) q.size = c.course_of-course.ensures c.requires.few (omega (arith, c.requires.few, c.requires.most)) in
+    let s = c.over_shadows-straight.result in
     let t = c.restart.new.self in
     let same = c.restart.ensures.same in
-    let over = shadowed_on (row_of α) (falls 3 (rows_of xs)) xs q was s t are.are same (c.over-shadows-straight.ensures ranged are.fallen) in
+    let over = shadowed_on (row_of α) (falls 3 (rows_of xs)) xs q was s t are.are same (c.over_shadows-straight.ensures ranged are.fallen) in
     let mild = subst Moderate (sym is) (moderate α q (length xs) (length was) are.fallen c.requires) in
     let few : course.rank ≤ 7260 = omega (arith, ap (λ d. d.rank) is, least-most (length xs) q.size c.requires.most c.requires.few) in
-    let first = first_items s t course (course_of α q (length xs) q.size) (coming ranks rank_row t) _ _ is same c.restart.ensures.comes (c.low-end.ensures mild few) (c.high-end.ensures mild few) in
+    let first = first_items s t course (course_of α q (length xs) q.size) (coming ranks rank_row t) _ _ is same c.restart.ensures.comes (c.low_end.ensures mild few) (c.high_end.ensures mild few) in
     record {
       over = over;
       keeps = record { holds = over.holds; moderate = mild };

@@ -9,14 +9,14 @@ use Rattle.crossing.proofs.Chains.{joined_none}
 use Rattle.crossing.proofs.Passing.{beyond_on, moderate-next, later_same, same_on, keeps_on, ran_ends, ran_passes, ran_still, ran_out}
 use Rattle.crossing.proofs.state.Search.advance.Goals as goal
 
-pub returns-then-not-is-finished : goal.returns-then-not-is-finished
-returns-then-not-is-finished c =
+pub returns-then-not-is_finished : goal.returns-then-not-is_finished
+returns-then-not-is_finished c =
     let s0 = c.args.self.now in
     let s = c.ranks.self in
     let t = c.advance.new.self in
-    let told = c.in-ok-answer.ensures in
+    let told = c.in_ok-answer.ensures in
     let inv = c.ranks.invariant in
-    let a = c.in-ok-answer.answer in
+    let a = c.in_ok-answer.answer in
     let left = c.args.allowance - c.ranks.steps in
     record {
       same = same_on s0.straight s.straight t inv.1 told.same;
@@ -26,7 +26,7 @@ returns-then-not-is-finished c =
       counted = λ e. omega (arith, told.counted e);
       is = λ k.
           ran_ends (coming ranks rank_row s.straight) (later_than s) left c.ranks.steps a c.ranks.page c.advance.new.page (coming ranks rank_row t) (told.is (inv.3 k).holds) _ c.args.page.now _ (inv.5 k) (inv.4 k)
-          (λ q. false≢true (c.if-not-is-finished.ensures.1 q)) (later_same s.course s.straight t told.same);
+          (λ q. false≢true (c.if-not-is_finished.ensures.1 q)) (later_same s.course s.straight t told.same);
     }
 
 pub returns-then-self : goal.returns-then-self
@@ -34,11 +34,11 @@ returns-then-self c =
     let s0 = c.args.self.now in
     let s = c.ranks.self in
     let t = c.advance.new.self in
-    let told = c.in-ok-answer.ensures in
+    let told = c.in_ok-answer.ensures in
     let inv = c.ranks.invariant in
-    let a = c.in-ok-answer.answer in
+    let a = c.in_ok-answer.answer in
     let left = c.args.allowance - c.ranks.steps in
-    let over : a.told ≡ Finished = c.if-not-is-finished.ensures.0 refl in
+    let over : a.told ≡ Finished = c.if-not-is_finished.ensures.0 refl in
     record {
       same = same_on s0.straight s.straight t inv.1 told.same;
       kept = λ k. keeps_on s.course s.course s.straight t told.same (inv.3 k).moderate (inv.3 k);
@@ -55,13 +55,13 @@ ranks-preserved c =
     let s0 = c.args.self.now in
     let s = c.ranks.self in
     let t = c.advance.new.self in
-    let u = c.pass-on.new.self in
-    let told = c.in-ok-answer.ensures in
-    let on = c.pass-on.ensures in
+    let u = c.pass_on.new.self in
+    let told = c.in_ok-answer.ensures in
+    let on = c.pass_on.ensures in
     let inv = c.ranks.invariant in
-    let a = c.in-ok-answer.answer in
+    let a = c.in_ok-answer.answer in
     let left = c.args.allowance - c.ranks.steps in
-    let over : a.told ≡ Finished = c.if-not-is-finished.ensures.0 refl in
+    let over : a.told ≡ Finished = c.if-not-is_finished.ensures.0 refl in
     let spends : left - a.steps ≡ c.args.allowance - (c.ranks.steps + a.steps) = omega arith in (
       omega (arith, inv.0, told.safe.0),
       same_on s0.straight s.straight u.straight inv.1 (same_on s.straight t u.straight told.same on.same),

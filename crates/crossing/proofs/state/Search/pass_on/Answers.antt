@@ -13,5 +13,5 @@ returns c =
       comes = λ m.
           let n = subst Moderate (sym next) (moderate-next s.course m) in
           let few : c.next-course.result.rank ≤ 7260 = omega (arith, ap (λ q. q.rank) next, m.last, c.requires) in
-          passes_on s.course c.next-course.result s.straight c.restart.new.self _ _ _ next c.restart.ensures.same c.requires c.restart.ensures.comes (c.low-end.ensures n few) (c.high-end.ensures n few);
+          passes_on s.course c.next-course.result s.straight c.restart.new.self _ _ _ next c.restart.ensures.same c.requires c.restart.ensures.comes (c.low_end.ensures n few) (c.high_end.ensures n few);
     }
