@@ -9,7 +9,7 @@ import re
 import sys
 
 # Names that would fall together with another name, or that their words give away badly.
-CHOSEN = {"getD-climbs": "get_or-climbs", "ofZ-lt": "of_z-lt", "holds_on": "HoldsOn", "placeFor": "place_for"}
+CHOSEN = {n: n.replace("-", "_") for n in ("crossed-finds", "crossed-sound", "crossed-order", "crossed-once", "crossed-counts")} | {"getD-climbs": "get_or-climbs", "ofZ-lt": "of_z-lt", "holds_on": "HoldsOn", "placeFor": "place_for"}
 
 WORD = r"[^\s(){}\[\];,.`\"|:=]+"
 SIGNED = re.compile(r"^(\s*)((?:(?:abbrev|pub|unfoldable|record|data) )*)(" + WORD + r")((?:\s*[({].*?[)}])*)\s*:(?![:=])\s*(.*)$")

@@ -9,10 +9,10 @@ searches_are_exact = record {
   finds = λ a laws xs rows low high lo ho m pos l. finds a laws xs rows low high lo ho m pos l;
   counts = λ a laws xs rows low high lo ho m pos l. counts a laws xs rows low high lo ho m pos l;
   complements = complements_of_sets;
-  crossed-finds = proved.crossed-finds;
-  crossed-sound = proved.crossed-sound;
+  crossed_finds = proved.crossed_finds;
+  crossed_sound = proved.crossed_sound;
   crossed_complete = proved.crossed_complete;
-  crossed-order = proved.crossed-order;
-  crossed-once = proved.crossed-once;
-  crossed-counts = proved.crossed-counts;
+  crossed_order = proved.crossed_order;
+  crossed_once = proved.crossed_once;
+  crossed_counts = proved.crossed_counts;
 }

@@ -17,7 +17,7 @@ use Rattle.records.specs.Records.{Rec, heading, entering, striking, question, fa
 use Rattle.records.proofs.Nexts.{next-at}
 use Rattle.rollfile.specs.Files.{then, headed, opened}
 use Rattle.rollfile.proofs.Runs.{parsed-fits, next_none, first-behind}
-use Rattle.listing.specs.Listing.{question_in, is_question, faulted, record_lines, question_lines, asked_so_far, before, tried, lines, result, fault_in}
+use Rattle.listing.specs.Listing.{question_in, is_question, faulted, record_lines, question_lines, asked_so_far, before, tried, lines, lines_of, fault_in}
 
 module _ (d : Columns) (room table : ℕ) where
   -- the bytes of a body are passed over
@@ -136,8 +136,8 @@ behind-heading bs d was is r e file start next =
     (next.place ∙ ap (λ b. moved b was.place (told r)) file ∙ ap (λ n. moved bs n (told r)) start) (next.file ∙ file)
 
 -- what a file gives, by its columns
-pub result_is : (room table : ℕ) (bs : List ℕ) (d : Columns) → Ok d ≡ opened bs → lines d room table (drop 2 bs) [] 0 0 2 ≡ result room table bs
-result_is room table bs d e = ap (λ x. then x (λ c. lines c room table (drop 2 bs) [] 0 0 2)) e
+pub lines_of_is : (room table : ℕ) (bs : List ℕ) (d : Columns) → Ok d ≡ opened bs → lines d room table (drop 2 bs) [] 0 0 2 ≡ lines_of room table bs
+lines_of_is room table bs d e = ap (λ x. then x (λ c. lines c room table (drop 2 bs) [] 0 0 2)) e
 
 -- without a fault there are lines, and with one there are none
 pub has_lines : (x : Result (List ℕ) Fault) → Ok tt ≡ fault_in x → (text : List ℕ) × (x ≡ Ok text)

@@ -5,7 +5,7 @@ use Rattle.std.proofs.lemmas.List.{length-map}
 use Rattle.sets.specs.Orders.{In}
 use Rattle.sets.specs.Trace.{somes}
 use Rattle.sets.specs.Crossings.{Crosses}
-use Rattle.sets.proofs.Crossed.{crossed-sound}
+use Rattle.sets.proofs.Crossed.{crossed_sound}
 use Rattle.exploring.specs.Meaning.{size_of}
 use Rattle.crossed.specs.declared.asked.Question.{Question}
 use Rattle.crossed.specs.declared.entries.Entry.{Entry}
@@ -32,7 +32,7 @@ coming_sized xs q some most =
       some = omega arith;
       room = omega (arith, length-map xs (λ e. row_of e.amounts));
     } in
-    all_from_in (λ s. length s ≡ q.size) (somes (coming xs q)) (λ s i. (crossed-sound 3 (rows_of xs) (row_of q.low) (row_of q.high) q.size crosses s i).places.size)
+    all_from_in (λ s. length s ≡ q.size) (somes (coming xs q)) (λ s i. (crossed_sound 3 (rows_of xs) (row_of q.low) (row_of q.high) q.size crosses s i).places.size)
 
 -- those that its Search has to come
 pub starts_sized : (xs : List Entry) (q : Question) (was : List Rank) (s : Search) → 1 ≤ q.size → q.size ≤ length xs → Starts xs q was s → AllByRecursion (λ ps. length ps ≡ size_of s.straight) (somes (to_come s))

@@ -8,7 +8,7 @@ use Rattle.roll.specs.declared.refusal.Refusal.{Refusal}
 use Rattle.roll.specs.declared.refusal.Refusal.TheVariants.{TooLong}
 use Rattle.rollfile.specs.Writing.{over, written, output_after}
 use Rattle.rollfile.proofs.Overs.{length_over, over-over}
-use Rattle.listing.specs.Text.{field, Puts}
+use Rattle.listing.specs.Text.{field, Puts, Writes}
 
 -- one byte
 pub set-over : (out : List ℕ) (at b : ℕ) → at < length out → set out at b ≡ over out at (b ∷ [])
@@ -63,6 +63,11 @@ puts_stop out o o' at n pre left one more whole p q e f = puts_last out o o' at 
 -- one piece more, before others
 pub puts_on : (out o o' : List ℕ) (at n k : ℕ) (pre left one more whole : List ℕ) → Puts out at pre (Some n) o → Puts o n one (Some k) o' → left ≡ one ++ more → pre ++ left ≡ whole → (now : List ℕ) × Puts out at now (Some k) o' × (now ++ more ≡ whole)
 puts_on out o o' at n k pre left one more whole p q e f = (pre ++ one, puts_then out o o' at n pre one (Some k) p q, append_assoc pre one more ∙ ap (λ l. pre ++ l) (sym e) ∙ f)
+
+-- some text
+pub puts_writes : (out o : List ℕ) (at : ℕ) (bs : List ℕ) (r : Option ℕ) → Puts out at bs r o → Writes out at r o
+puts_writes out o at bs None p = tt
+puts_writes out o at bs (Some n) p = (bs, p)
 
 -- a whole text that fits, and one that does not
 pub fits_whole : (out after text : List ℕ) (n : ℕ) → Puts out 0 text (Some n) after → (Ok n ≡ written out text) × (after ≡ output_after out text)

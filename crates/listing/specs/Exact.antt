@@ -7,9 +7,9 @@ pub record SearchesAreExact : Type 0 where
   pub finds : TraceFinds
   pub counts : TraceCounts
   pub complements : Complements
-  pub crossed-finds : CrossedFinds
-  pub crossed-sound : CrossedSound
+  pub crossed_finds : CrossedFinds
+  pub crossed_sound : CrossedSound
   pub crossed_complete : CrossedComplete
-  pub crossed-order : CrossedOrder
-  pub crossed-once : CrossedOnce
-  pub crossed-counts : CrossedCounts
+  pub crossed_order : CrossedOrder
+  pub crossed_once : CrossedOnce
+  pub crossed_counts : CrossedCounts

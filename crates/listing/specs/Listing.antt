@@ -97,12 +97,12 @@ listed (Ok bs) = bs
 listed (Err f) = line 82 (number_of f.refusal ∷ f.place ∷ [])
 
 -- the lines of a file, or its first fault, with a roll of so many cells and a table of so many values
-abbrev pub result : ℕ → ℕ → List ℕ → Result (List ℕ) Fault
-result room table file = then (opened file) (λ d. lines d room table (drop 2 file) [] 0 0 2)
+abbrev pub lines_of : ℕ → ℕ → List ℕ → Result (List ℕ) Fault
+lines_of room table file = then (opened file) (λ d. lines d room table (drop 2 file) [] 0 0 2)
 
 -- the listing of a file
 abbrev pub listing : ℕ → ℕ → List ℕ → List ℕ
-listing room table file = listed (result room table file)
+listing room table file = listed (lines_of room table file)
 
 -- whether there is a fault
 abbrev pub fault_in : Result (List ℕ) Fault → Result (Unit {0}) Fault
@@ -118,7 +118,7 @@ pub record Tried (was : Roll) (table : ℕ) (rec : Rec) (r : Result (Unit {0}) R
 
 -- the listing of a file is written, over a roll of 120 cells and a table of 1,600 values: its length, or that it does not fit,
 -- and what stands in the output then
-pub record Lists (file out : List ℕ) (r : Result ℕ Refusal) (after : List ℕ) : Type 0 where
+pub record ListsFile (file out : List ℕ) (r : Result ℕ Refusal) (after : List ℕ) : Type 0 where
   pub answer : r ≡ written out (listing 120 1600 file)
   pub output : after ≡ output_after out (listing 120 1600 file)
 
@@ -127,6 +127,6 @@ abbrev pub as_number : Result ℕ Refusal → ℤ
 as_number (Ok n) = pos n
 as_number (Err e) = negsuc (number_of e - 1)
 
-pub record Told (file out : List ℕ) (r : ℤ) (after : List ℕ) : Type 0 where
+pub record TellsFile (file out : List ℕ) (r : ℤ) (after : List ℕ) : Type 0 where
   pub answer : r ≡ as_number (written out (listing 120 1600 file))
   pub output : after ≡ output_after out (listing 120 1600 file)

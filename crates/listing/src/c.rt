@@ -1,6 +1,7 @@
 // The listing as a call from C.
 ghost use Rattle.std.specs.Prelude.{◌^◌, ◌<◌, length};
-ghost use Rattle.listing.specs.Listing.{Told};
+ghost use Rattle.listing.specs.Text.{Told};
+ghost use Rattle.listing.specs.Listing.{TellsFile};
 
 use crate::listing::list;
 
@@ -8,7 +9,8 @@ use crate::listing::list;
 // whole output is zero.
 #[unsafe(no_mangle)]
 pub extern "C" fn debits_list(file: &[u8], out: &mut [u8]) -> i64
-    ensures { length out.old < 2 ^ 63 → Told file.now out.old result out.new }
+    ensures output { length out.old < 2 ^ 63 → Told out.old result out.new }
+    ensures lines { length out.old < 2 ^ 63 → TellsFile file.now out.old result out.new }
 {
     match list(file, out) {
         Ok(n) => i64::try_from(n).unwrap_or(i64::MAX),

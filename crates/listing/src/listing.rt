@@ -3,8 +3,8 @@ ghost use Rattle.std.specs.Prelude.{◌≡◌, ℕ, List, length, drop, Ok};
 ghost use Rattle.crossed.specs.Rolls.{standing, room_of, Sound};
 ghost use Rattle.records.specs.Records.{plain, Behind};
 ghost use Rattle.listing.specs.Exact.{SearchesAreExact};
-ghost use Rattle.listing.specs.Text.{Puts};
-ghost use Rattle.listing.specs.Listing.{question_in, is_question as asks, lines, result, listing as listing-of, fault_in, Tried, Lists};
+ghost use Rattle.listing.specs.Text.{Puts, Writes, Lists};
+ghost use Rattle.listing.specs.Listing.{question_in, is_question as asks, lines, lines_of, listing as listing_of, fault_in, Tried, ListsFile};
 
 use crate::questions::put_question;
 use crate::text::put_line;
@@ -22,7 +22,7 @@ use rollfile::reading::{apply, heading};
 
 // The question that a record asks, if it asks one.
 fn question_of(item: Record) -> Option<Question>
-    ensures* { λ r. ⌜ r ≡ question_in (plain item.entry) ⌝ }
+    ensures { result ≡ question_in (plain item.entry) }
 {
     match item {
         Record::Question(body) => Some(asked_in(body)),
@@ -34,7 +34,7 @@ fn question_of(item: Record) -> Option<Question>
 
 // Whether a record is a question.
 fn is_question(item: Record) -> bool
-    ensures* { λ r. ⌜ r ≡ asks (plain item.entry) ⌝ }
+    ensures { result ≡ asks (plain item.entry) }
 {
     match item {
         Record::Question(_) => true,
@@ -46,7 +46,7 @@ fn is_question(item: Record) -> bool
 
 // Tries a record on the roll: a question is checked, and changes nothing; an entry or a strike is applied.
 fn attempt(roll: &mut Roll, item: Record, table: &[Ranked]) -> Result<(), Refusal>
-    ensures* { λ r. ⌜ Tried roll.old (length table.now) (plain item.entry) r roll.new ⌝ }
+    ensures { Tried roll.old (length table.now) (plain item.entry) result roll.new }
 {
     match question_of(item) {
         Some(asked) => check(roll, asked, table),
@@ -57,7 +57,7 @@ fn attempt(roll: &mut Roll, item: Record, table: &[Ranked]) -> Result<(), Refusa
 // The first fault of the records after the heading, those of questions included.
 fn faults_on(reader: &mut Reader, roll: &mut Roll, table: &[Ranked]) -> Result<(), Fault>
     requires { Behind reader.old }
-    ensures* { λ r. ⌜ r ≡ fault_in (lines roll.old.columns (room_of roll.old) (length table.now) (drop reader.old.place reader.old.bytes.now) (standing roll.old) 0 0 reader.old.place) ⌝ }
+    ensures { result ≡ fault_in (lines roll.old.columns (room_of roll.old) (length table.now) (drop reader.old.place reader.old.bytes.now) (standing roll.old) 0 0 reader.old.place) }
 {
     'records: loop {
         let place = reader.place();
@@ -76,7 +76,7 @@ fn faults_on(reader: &mut Reader, roll: &mut Roll, table: &[Ranked]) -> Result<(
 
 // The first fault of a file, those of its questions included.
 fn faults_in(file: &[u8], cells: &mut [Entry], table: &[Ranked]) -> Result<(), Fault>
-    ensures* { λ r. ⌜ r ≡ fault_in (result (length cells.old) (length table.now) file.now) ⌝ }
+    ensures { result ≡ fault_in (lines_of (length cells.old) (length table.now) file.now) }
 {
     match heading(file) {
         Err(fault) => Err(fault),
@@ -97,7 +97,7 @@ fn put_on(
     table: &mut [Ranked],
 ) -> Option<usize>
     requires { Behind reader.old }
-    ensures* { λ r. ⌜ ((text : List ℕ) → Sound roll.old → lines roll.old.columns (room_of roll.old) (length table.old) (drop reader.old.place reader.old.bytes.now) (standing roll.old) 0 0 reader.old.place ≡ Ok text → Puts out.old 0 text r out.new) ⌝ }
+    ensures { (text : List ℕ) → Sound roll.old → lines roll.old.columns (room_of roll.old) (length table.old) (drop reader.old.place reader.old.bytes.now) (standing roll.old) 0 0 reader.old.place ≡ Ok text → Puts out.old 0 text result out.new }
 {
     let mut at = 0;
     let mut ordinal = 0usize;
@@ -128,7 +128,7 @@ fn put_questions(
     cells: &mut [Entry],
     table: &mut [Ranked],
 ) -> Option<usize>
-    ensures* { λ r. ⌜ ((text : List ℕ) → result (length cells.old) (length table.old) file.now ≡ Ok text → Puts out.old 0 text r out.new) ⌝ }
+    ensures { (text : List ℕ) → lines_of (length cells.old) (length table.old) file.now ≡ Ok text → Puts out.old 0 text result out.new }
 {
     match heading(file) {
         Err(_) => None,
@@ -148,15 +148,14 @@ fn put_listing(
     cells: &mut [Entry],
     table: &mut [Ranked],
 ) -> Option<usize>
-    ensures* { λ r. ⌜ Puts out.old 0 (listing-of (length cells.old) (length table.old) file.now) r out.new ⌝ }
+    ensures text { Puts out.old 0 (listing_of (length cells.old) (length table.old) file.now) result out.new }
+    ensures writes { Writes out.old 0 result out.new }
 {
     match faults_in(file, cells, table) {
-        Err(fault) => put_line(
-            out,
-            0,
-            b'R',
-            &[usize::from(fault.refusal.number()), fault.place],
-        ),
+        Err(fault) => {
+            let number = usize::from(fault.refusal.number());
+            put_line(out, 0, b'R', &[number, fault.place])
+        }
         Ok(()) => put_questions(out, file, cells, table),
     }
 }
@@ -164,8 +163,9 @@ fn put_listing(
 // Writes the listing of a file to the front of the output, and tells its length. Where it does not fit, the whole output is
 // set to zero.
 pub fn list(file: &[u8], out: &mut [u8]) -> Result<usize, Refusal>
-    ensures* output { λ r. ⌜ Lists file.now out.old r out.new ⌝ }
-    ensures* exact { λ _. ⌜ SearchesAreExact ⌝ }
+    ensures output { Lists out.old result out.new }
+    ensures lines { ListsFile file.now out.old result out.new }
+    ensures searches { SearchesAreExact }
 {
     let zero = Amounts {
         first: 0,

@@ -158,9 +158,9 @@ module _ (k : ℕ) (xs : List Row) (low high : Row) (m : ℕ) (c : Crosses k xs 
       ∙ kept_same (λ s. in_band (amounts (suc k)) (shadow α β low) (shadow α β high) (total (amounts (suc k)) (shadows α 1 xs) s)) (λ s. good s && eqb (place_sum s) β) (sets 1 (length xs) m)
       (All-weaker (Among 0 (length xs) m) (λ s. in_band (amounts (suc k)) (shadow α β low) (shadow α β high) (total (amounts (suc k)) (shadows α 1 xs) s) ≡ (good s && eqb (place_sum s) β)) (λ s h. set-band β s h) (sets 1 (length xs) m) (members (length xs) m))
 
-  pub crossed-finds : somes (crossed k xs low high m) ≡ crossed_solutions k xs low high m
+  pub crossed_finds : somes (crossed k xs low high m) ≡ crossed_solutions k xs low high m
   unfolding α straight part good
-  crossed-finds = somes-joined straight (rank_totals (length xs) m) ∙ joined_same (λ β. somes (straight β)) part (λ β. Unit {0}) (λ β u. straight-finds β) (rank_totals (length xs) m) (all_of (λ β. Unit {0}) (λ β. tt) (rank_totals (length xs) m))
+  crossed_finds = somes-joined straight (rank_totals (length xs) m) ∙ joined_same (λ β. somes (straight β)) part (λ β. Unit {0}) (λ β u. straight-finds β) (rank_totals (length xs) m) (all_of (λ β. Unit {0}) (λ β. tt) (rank_totals (length xs) m))
 
   -- in the band as a row, and in each column
   lies-from : (s : List ℕ) → Among 0 (length xs) m s → good s ≡ true → Lies k xs low high s
@@ -180,17 +180,17 @@ module _ (k : ℕ) (xs : List Row) (low high : Row) (m : ℕ) (c : Crosses k xs 
       (column_above (own_wide k low own-low) w (λ c l. subst (λ z. cell c low ≤ℤ z) (t c l) (f c l).0))
       (column_above w (own_wide k high own-high) (λ c l. subst (λ z. z ≤ℤ cell c high) (t c l) (f c l).1))
 
-  pub crossed-sound : (s : List ℕ) → In s (somes (crossed k xs low high m)) → Solves k xs low high m s
+  pub crossed_sound : (s : List ℕ) → In s (somes (crossed k xs low high m)) → Solves k xs low high m s
   unfolding part good
-  crossed-sound s i =
-      let j = in_joined part s (rank_totals (length xs) m) (subst (In s) crossed-finds i) in
+  crossed_sound s i =
+      let j = in_joined part s (rank_totals (length xs) m) (subst (In s) crossed_finds i) in
       let q = in_kept (λ s. good s && eqb (place_sum s) j.0) s (sets 1 (length xs) m) j.1.1 in
       record { places = is_among s q.0; lies = lies-from s (is_among s q.0) (and_parts (good s) (eqb (place_sum s) j.0) q.1).0 }
 
   pub crossed_complete : (s : List ℕ) → Solves k xs low high m s → In s (somes (crossed k xs low high m))
   unfolding part good
   crossed_complete s h =
-      subst (In s) (sym crossed-finds) (joined_in part s (place_sum s) (rank_totals (length xs) m) (in_rank_totals (length xs) m s h.places)
+      subst (In s) (sym crossed_finds) (joined_in part s (place_sum s) (rank_totals (length xs) m) (in_rank_totals (length xs) m s h.places)
       (kept_in (λ t. good t && eqb (place_sum t) (place_sum s)) s (sets 1 (length xs) m) (is_member (length xs) m s h.places) (and_from (good s) (eqb (place_sum s) (place_sum s)) (lies_good s h.places h.lies) (eq-eqb (place_sum s) (place_sum s) refl))))
 
   part_keyed : (β : ℕ) → AllByRecursion (λ s. place_sum s ≡ β) (part β)
@@ -201,20 +201,20 @@ module _ (k : ℕ) (xs : List Row) (low high : Row) (m : ℕ) (c : Crosses k xs 
   unfolding part
   part_sorted β = sorted_among Lex Before (λ s. place_sum s ≡ β) (λ s t e f l. inr (e ∙ sym f, l)) (part β) (part_keyed β) (sorted_kept Lex (λ s. good s && eqb (place_sum s) β) (sets 1 (length xs) m) (sets_sorted 0 (length xs) m))
 
-  pub crossed-order : Sorted Before (somes (crossed k xs low high m))
+  pub crossed_order : Sorted Before (somes (crossed k xs low high m))
   unfolding part good
-  crossed-order =
-      subst (Sorted Before) (sym crossed-finds) (subst (λ βs. Sorted Before (flat_map part βs)) (sym (rank_totals_are (length xs) m))
+  crossed_order =
+      subst (Sorted Before) (sym crossed_finds) (subst (λ βs. Sorted Before (flat_map part βs)) (sym (rank_totals_are (length xs) m))
       (sorted_joined Before place_sum (λ s t l. inl l) part part_keyed part_sorted (least_total m) (greatest_total (length xs) m + 1 - least_total m)))
 
-  pub crossed-once : Distinct (somes (crossed k xs low high m))
-  crossed-once = sorted_among Before (λ s t. s ≡ t → ⊥) (λ s. Unit {0}) (λ s t u v b e. before_irreflexive s (subst (Before s) (sym e) b)) (somes (crossed k xs low high m)) (all_of (λ s. Unit {0}) (λ s. tt) (somes (crossed k xs low high m))) crossed-order
+  pub crossed_once : Distinct (somes (crossed k xs low high m))
+  crossed_once = sorted_among Before (λ s t. s ≡ t → ⊥) (λ s. Unit {0}) (λ s t u v b e. before_irreflexive s (subst (Before s) (sym e) b)) (somes (crossed k xs low high m)) (all_of (λ s. Unit {0}) (λ s. tt) (somes (crossed k xs low high m))) crossed_order
 
   straight-counts : (β : ℕ) → length (straight β) ≤ 2 * length (sets 1 (length xs) m) - 1
   unfolding α straight
   straight-counts β = subst (λ n. length (straight β) ≤ 2 * length (sets 1 n m) - 1) (shadows-length α 1 xs)
       (counts (amounts (suc k)) (amounts_laws (suc k)) (shadows α 1 xs) (shadow-rows k xs own-entries) (shadow α β low) (shadow α β high) (shadow-own wα (own_wide k low own-low) β) (shadow-own wα (own_wide k high own-high) β) m c.some (subst (λ n. m ≤ n) (sym (shadows-length α 1 xs)) c.room))
 
-  pub crossed-counts : length (crossed k xs low high m) ≤ (m * (length xs - m) + 1) * (2 * length (sets 1 (length xs) m) - 1)
+  pub crossed_counts : length (crossed k xs low high m) ≤ (m * (length xs - m) + 1) * (2 * length (sets 1 (length xs) m) - 1)
   unfolding α straight
-  crossed-counts = subst (λ n. length (crossed k xs low high m) ≤ n * (2 * length (sets 1 (length xs) m) - 1)) (length-rank_totals (length xs) m c.room) (length-joined_le straight (2 * length (sets 1 (length xs) m) - 1) straight-counts (rank_totals (length xs) m))
+  crossed_counts = subst (λ n. length (crossed k xs low high m) ≤ n * (2 * length (sets 1 (length xs) m) - 1)) (length-rank_totals (length xs) m c.room) (length-joined_le straight (2 * length (sets 1 (length xs) m) - 1) straight-counts (rank_totals (length xs) m))

@@ -9,26 +9,26 @@ use Rattle.listing.proofs.Going.{asks}
 use Rattle.listing.proofs.Putting.{Left, left_fault, left_refused, left_end, left_none, left_stop, left_on}
 use Rattle.listing.proofs.listing.put_on.Goals as goal
 
-pub returns-in-default : goal.returns-in-default
-returns-in-default c = λ text sound whole.
+pub returns-in_default : goal.returns-in_default
+returns-in_default c = λ text sound whole.
     let bs = c.args.reader.now.bytes.now in
     let was = c.args.roll.now in
     let l = c.records in
     let at = l.reader.place in
-    let q = c.in-default.ensures.answer ∙ ap (λ b. next_of b at) l.invariant.0 in
-    absurd (left_fault was.columns (room_of was) (length c.args.table.now) bs (standing l.roll) l.ordinal at l.invariant.1 c.requires.short c.args.out.now l.out text l.at (l.invariant.8 text sound whole) c.in-default.field-0 q)
+    let q = c.in_default.ensures.answer ∙ ap (λ b. next_of b at) l.invariant.0 in
+    absurd (left_fault was.columns (room_of was) (length c.args.table.now) bs (standing l.roll) l.ordinal at l.invariant.1 c.requires.short c.args.out.now l.out text l.at (l.invariant.8 text sound whole) c.in_default.field-0 q)
 
-pub returns-in-default-next : goal.returns-in-default-next
-returns-in-default-next c = λ text sound whole.
+pub returns-in_default-next : goal.returns-in_default-next
+returns-in_default-next c = λ text sound whole.
     let bs = c.args.reader.now.bytes.now in
     let was = c.args.roll.now in
     let l = c.records in
     let at = l.reader.place in
-    let q = sym (ap (λ o. told (Ok o)) c.in-default-next.is) ∙ c.in-Ok.ensures.answer ∙ ap (λ b. next_of b at) l.invariant.0 in
+    let q = sym (ap (λ o. told (Ok o)) c.in_default-next.is) ∙ c.in-Ok.ensures.answer ∙ ap (λ b. next_of b at) l.invariant.0 in
     left_end was.columns (room_of was) (length c.args.table.now) bs (standing l.roll) l.ordinal at l.invariant.1 c.requires.short c.args.out.now l.out text l.at (l.invariant.8 text sound whole) q
 
-pub returns-in-default-attempt : goal.returns-in-default-attempt
-returns-in-default-attempt c = λ text sound whole.
+pub returns-in_default-attempt : goal.returns-in_default-attempt
+returns-in_default-attempt c = λ text sound whole.
     let bs = c.args.reader.now.bytes.now in
     let was = c.args.roll.now in
     let l = c.records in
@@ -37,16 +37,16 @@ returns-in-default-attempt c = λ text sound whole.
     let t = length c.args.table.now in
     let r = plain c.in-Some.item in
     let q = sym (ap (λ o. told (Ok o)) c.in-Some.is) ∙ c.in-Ok.ensures.answer ∙ ap (λ b. next_of b at) l.invariant.0 in
-    let a = c.in-default-attempt.ensures.answer ∙ ap (λ d. tried d (room_of l.roll) (length l.table) xs r) l.invariant.3 ∙ ap (λ n. tried was.columns n (length l.table) xs r) l.invariant.4 ∙ ap (λ n. tried was.columns (room_of was) n xs r) l.invariant.7 in
-    absurd (left_refused was.columns (room_of was) t bs xs l.ordinal at l.invariant.1 c.requires.short c.args.out.now l.out text l.at (l.invariant.8 text sound whole) r c.in-default-attempt.field-0 q a)
+    let a = c.in_default-attempt.ensures.answer ∙ ap (λ d. tried d (room_of l.roll) (length l.table) xs r) l.invariant.3 ∙ ap (λ n. tried was.columns n (length l.table) xs r) l.invariant.4 ∙ ap (λ n. tried was.columns (room_of was) n xs r) l.invariant.7 in
+    absurd (left_refused was.columns (room_of was) t bs xs l.ordinal at l.invariant.1 c.requires.short c.args.out.now l.out text l.at (l.invariant.8 text sound whole) r c.in_default-attempt.field-0 q a)
 
-pub put-question-requires : goal.put-question-requires
-put-question-requires c =
+pub put_question-requires : goal.put_question-requires
+put_question-requires c =
     let l = c.records in
     let xs = standing l.roll in
     let done = c.in-Ok-attempt.ensures in
-    let q = c.in-Some-question-of.asked in
-    let is = asks l.roll.columns (room_of l.roll) (length l.table) 0 xs (standing c.attempt.new.roll) (plain c.in-Some.item) q c.in-Some-question-of.ensures done.answer in
+    let q = c.in-Some-question_of.asked in
+    let is = asks l.roll.columns (room_of l.roll) (length l.table) 0 xs (standing c.attempt.new.roll) (plain c.in-Some.item) q c.in-Some-question_of.ensures done.answer in
     ap (λ d. asking d (length (standing c.attempt.new.roll)) q (length l.table)) done.columns ∙ ap (λ ys. asking l.roll.columns (length ys) q (length l.table)) is.1 ∙ is.0
 
 pub returns-in-None : goal.returns-in-None
@@ -63,14 +63,14 @@ returns-in-None c = λ text sound whole.
     let q = sym (ap (λ o. told (Ok o)) is) ∙ c.in-Ok.ensures.answer ∙ ap (λ b. next_of b at) l.invariant.0 in
     let moves : c.next.new.self.place ≡ at + 1 + size_of (get_or bs at 0) = c.in-Ok.ensures.place ∙ ap (λ o. moved l.reader.bytes.now at (told (Ok o))) is ∙ ap (λ b. at + 1 + size_of (get_or b at 0)) l.invariant.0 in
     let a = done.answer ∙ ap (λ d. tried d (room_of l.roll) (length l.table) xs r) l.invariant.3 ∙ ap (λ n. tried was.columns n (length l.table) xs r) l.invariant.4 ∙ ap (λ n. tried was.columns (room_of was) n xs r) l.invariant.7 in
-    let one : c.saturating-add-ordinal.result ≡ suc l.ordinal = omega (arith, c.saturating-add-ordinal.ensures, l.invariant.6, l.invariant.2, c.requires.short) in
+    let one : c.saturating_add-ordinal.result ≡ suc l.ordinal = omega (arith, c.saturating_add-ordinal.ensures, l.invariant.6, l.invariant.2, c.requires.short) in
     let ys = standing c.attempt.new.roll in
-    let asked = c.in-Some-question-of.asked in
-    let puts : Puts l.out l.at (question_lines (suc l.ordinal) ys asked) None c.put-question.new.out = subst (λ k. Puts l.out l.at (question_lines k ys asked) None c.put-question.new.out) one (c.in-None.ensures (done.sound (l.invariant.5 sound))) in
-    left_stop was.columns (room_of was) t bs xs l.ordinal at l.invariant.1 c.requires.short c.args.out.now l.out text l.at (l.invariant.8 text sound whole) r ys c.next.new.self.place q moves a asked c.in-Some-question-of.ensures c.put-question.new.out puts
+    let asked = c.in-Some-question_of.asked in
+    let puts : Puts l.out l.at (question_lines (suc l.ordinal) ys asked) None c.put_question.new.out = subst (λ k. Puts l.out l.at (question_lines k ys asked) None c.put_question.new.out) one (c.in-None.ensures (done.sound (l.invariant.5 sound))) in
+    left_stop was.columns (room_of was) t bs xs l.ordinal at l.invariant.1 c.requires.short c.args.out.now l.out text l.at (l.invariant.8 text sound whole) r ys c.next.new.self.place q moves a asked c.in-Some-question_of.ensures c.put_question.new.out puts
 
-pub records-preserved-in-Some-put-question : goal.records-preserved-in-Some-put-question
-records-preserved-in-Some-put-question c =
+pub records-preserved-in-Some-put_question : goal.records-preserved-in-Some-put_question
+records-preserved-in-Some-put_question c =
     let bs = c.args.reader.now.bytes.now in
     let was = c.args.roll.now in
     let l = c.records in
@@ -84,10 +84,10 @@ records-preserved-in-Some-put-question c =
     let moves : c.next.new.self.place ≡ at + 1 + size_of (get_or bs at 0) = c.in-Ok.ensures.place ∙ ap (λ o. moved l.reader.bytes.now at (told (Ok o))) is ∙ ap (λ b. at + 1 + size_of (get_or b at 0)) l.invariant.0 in
     let a = done.answer ∙ ap (λ d. tried d (room_of l.roll) (length l.table) xs r) l.invariant.3 ∙ ap (λ n. tried was.columns n (length l.table) xs r) l.invariant.4 ∙ ap (λ n. tried was.columns (room_of was) n xs r) l.invariant.7 in
     let fits = next_fits bs at r l.invariant.1 c.requires.short (sym q) in
-    let one : c.saturating-add-ordinal.result ≡ suc l.ordinal = omega (arith, c.saturating-add-ordinal.ensures, l.invariant.6, l.invariant.2, c.requires.short) in
+    let one : c.saturating_add-ordinal.result ≡ suc l.ordinal = omega (arith, c.saturating_add-ordinal.ensures, l.invariant.6, l.invariant.2, c.requires.short) in
     let ys = standing c.attempt.new.roll in
-    let asked = c.in-Some-question-of.asked in
-    let m = c.in-Some-put-question.behind in (
+    let asked = c.in-Some-question_of.asked in
+    let m = c.in-Some-put_question.behind in (
       c.in-Ok.ensures.file ∙ l.invariant.0,
       omega arith,
       omega arith,
@@ -95,11 +95,11 @@ records-preserved-in-Some-put-question c =
       done.room ∙ l.invariant.4,
       (λ s. done.sound (l.invariant.5 s)),
       omega (arith, one, moves, l.invariant.6),
-      c.put-question.auto.table ∙ l.invariant.7,
+      c.put_question.auto.table ∙ l.invariant.7,
       λ text sound whole.
-          let puts : Puts l.out l.at (question_lines (suc l.ordinal) ys asked) (Some m) c.put-question.new.out = subst (λ k. Puts l.out l.at (question_lines k ys asked) (Some m) c.put-question.new.out) one (c.in-Some-put-question.ensures (done.sound (l.invariant.5 sound))) in
-          subst (λ k. Left was.columns (room_of was) t bs ys k c.next.new.self.place c.args.out.now m c.put-question.new.out text) (sym one)
-          (left_on was.columns (room_of was) t bs xs l.ordinal at l.invariant.1 c.requires.short c.args.out.now l.out text l.at (l.invariant.8 text sound whole) r ys c.next.new.self.place q moves a asked c.in-Some-question-of.ensures m c.put-question.new.out puts),
+          let puts : Puts l.out l.at (question_lines (suc l.ordinal) ys asked) (Some m) c.put_question.new.out = subst (λ k. Puts l.out l.at (question_lines k ys asked) (Some m) c.put_question.new.out) one (c.in-Some-put_question.ensures (done.sound (l.invariant.5 sound))) in
+          subst (λ k. Left was.columns (room_of was) t bs ys k c.next.new.self.place c.args.out.now m c.put_question.new.out text) (sym one)
+          (left_on was.columns (room_of was) t bs xs l.ordinal at l.invariant.1 c.requires.short c.args.out.now l.out text l.at (l.invariant.8 text sound whole) r ys c.next.new.self.place q moves a asked c.in-Some-question_of.ensures m c.put_question.new.out puts),
     )
 
 pub records-preserved : goal.records-preserved
@@ -127,5 +127,5 @@ records-preserved c =
       l.invariant.7,
       λ text sound whole.
           left_none was.columns (room_of was) t bs xs l.ordinal at l.invariant.1 c.requires.short c.args.out.now l.out text l.at (l.invariant.8 text sound whole) r (standing c.attempt.new.roll) c.next.new.self.place q moves a
-          (sym c.in-default-question-of.is ∙ c.question-of.ensures),
+          (sym c.in_default-question_of.is ∙ c.question_of.ensures),
     )

@@ -6,4 +6,4 @@ pub loop-i-preserved : goal.loop-i-preserved
 loop-i-preserved c =
     let ps = c.args.places.now in
     let i = c.loop-i.i in
-    numbers_more c.args.entries.now ps c.loop-i.numbers i (get_or ps i 0) c.number-at.result (omega (arith, c.min-count.ensures)) (omega (arith, c.min-count.ensures, c.loop-i.auto.numbers)) refl c.number-at.ensures c.loop-i.invariant
+    numbers_more c.args.entries.now ps c.loop-i.numbers i (get_or ps i 0) c.number_at.result (omega (arith, c.min-count.ensures)) (omega (arith, c.min-count.ensures, c.loop-i.auto.numbers)) refl c.number_at.ensures c.loop-i.invariant

@@ -10,11 +10,11 @@ use Rattle.listing.proofs.Written.{puts_then, puts_short}
 use Rattle.listing.proofs.Sized.{starts_sized}
 use Rattle.listing.proofs.questions.put_question.Goals as goal
 
-pub returns-in-default : goal.returns-in-default
-returns-in-default c = λ sound.
+pub returns-in_default : goal.returns-in_default
+returns-in_default c = λ sound.
     let q = c.args.asked in
     let xs = standing c.args.roll.now in
-    puts_short c.args.out.now c.put-line.new.out c.put-line.new.out c.args.at (line 81 (c.args.ordinal ∷ q.size ∷ [])) (sets_lines most_steps xs (coming xs q)) c.in-default.ensures
+    puts_short c.args.out.now c.put_line.new.out c.put_line.new.out c.args.at (line 81 (c.args.ordinal ∷ q.size ∷ [])) (sets_lines most_steps xs (coming xs q)) c.in_default.ensures
 
 pub returns : goal.returns
 returns c = λ sound.
@@ -27,7 +27,7 @@ returns c = λ sound.
     let fits = accepted_fits roll.columns (length xs) q (length was) few c.requires in
     let starts = subst (BeginsBy roll.columns xs q was s) c.requires c.begin-state.ensures (always_well_formed roll.columns xs sound) in
     let sized = starts_sized xs q was s fits.some fits.most starts in
-    let puts : Puts c.put-line.new.out c.in-Some.next (sets_lines most_steps xs (coming xs q)) c.put-sets.result c.put-sets.new.out =
-    subst (λ t. Puts c.put-line.new.out c.in-Some.next (sets_lines most_steps xs t) c.put-sets.result c.put-sets.new.out) starts.comes
-    (subst (λ l. Puts c.put-line.new.out c.in-Some.next (sets_lines most_steps l (to_come s)) c.put-sets.result c.put-sets.new.out) c.entries.ensures (c.put-sets.ensures starts.keeps sized)) in
-    puts_then c.args.out.now c.put-line.new.out c.put-sets.new.out c.args.at c.in-Some.next (line 81 (c.args.ordinal ∷ q.size ∷ [])) (sets_lines most_steps xs (coming xs q)) c.put-sets.result c.in-Some.ensures puts
+    let puts : Puts c.put_line.new.out c.in-Some.next (sets_lines most_steps xs (coming xs q)) c.put_sets.result c.put_sets.new.out =
+    subst (λ t. Puts c.put_line.new.out c.in-Some.next (sets_lines most_steps xs t) c.put_sets.result c.put_sets.new.out) starts.comes
+    (subst (λ l. Puts c.put_line.new.out c.in-Some.next (sets_lines most_steps l (to_come s)) c.put_sets.result c.put_sets.new.out) c.entries.ensures (c.put_sets.ensures starts.keeps sized)) in
+    puts_then c.args.out.now c.put_line.new.out c.put_sets.new.out c.args.at c.in-Some.next (line 81 (c.args.ordinal ∷ q.size ∷ [])) (sets_lines most_steps xs (coming xs q)) c.put_sets.result c.in-Some.ensures puts

@@ -7,9 +7,9 @@ use Rattle.listing.proofs.questions.put_set.Goals as goal
 
 pub returns : goal.returns
 returns c =
-    let n = c.numbers-of-count.result in
+    let n = c.numbers_of-count.result in
     let ps = c.args.places.now in
-    let made = c.numbers-of-count.new.numbers in
-    let all : n ≡ length ps = omega (arith, c.numbers-of-count.ensures.count, c.requires) in
-    let are : take (n - 0) made ≡ numbers c.args.entries.now ps = ap (λ k. take k made) (sub-zero n) ∙ c.numbers-of-count.ensures.are ∙ ap (numbers c.args.entries.now) (take_all n ps (omega arith)) in
-    subst (λ ns. Puts c.args.out.now c.args.at (line 83 ns) c.put-line.result c.put-line.new.out) are c.put-line.ensures
+    let made = c.numbers_of-count.new.numbers in
+    let all : n ≡ length ps = omega (arith, c.numbers_of-count.ensures.count, c.requires) in
+    let are : take (n - 0) made ≡ numbers c.args.entries.now ps = ap (λ k. take k made) (sub-zero n) ∙ c.numbers_of-count.ensures.are ∙ ap (numbers c.args.entries.now) (take_all n ps (omega arith)) in
+    subst (λ ns. Puts c.args.out.now c.args.at (line 83 ns) c.put_line.result c.put_line.new.out) are c.put_line.ensures

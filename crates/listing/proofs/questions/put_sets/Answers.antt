@@ -20,7 +20,7 @@ returns-in-Spent c = λ keeps sized.
     let xs = c.args.entries.now in
     let t = to_come l.state in
     let spent = lines-spent xs t l.left c.in-Ok.answer l.page c.advance.new.page (to_come c.advance.new.self) (c.in-Ok.ensures.is inv.0) c.in-Spent.is in
-    puts_last c.args.out.now l.out c.put-line.new.out c.args.at l.next inv.2.0 (sets_lines l.left xs t) (line 80 []) _ c.put-line.result inv.2.1 c.put-line.ensures spent inv.2.2
+    puts_last c.args.out.now l.out c.put_line.new.out c.args.at l.next inv.2.0 (sets_lines l.left xs t) (line 80 []) _ c.put_line.result inv.2.1 c.put_line.ensures spent inv.2.2
 
 pub returns-in-Finished : goal.returns-in-Finished
 returns-in-Finished c = λ keeps sized.
@@ -29,7 +29,7 @@ returns-in-Finished c = λ keeps sized.
     let xs = c.args.entries.now in
     let t = to_come l.state in
     let over = lines-finished xs t l.left c.in-Ok.answer l.page c.advance.new.page (to_come c.advance.new.self) (c.in-Ok.ensures.is inv.0) c.in-Finished.is in
-    puts_last c.args.out.now l.out c.put-line-in-Finished.new.out c.args.at l.next inv.2.0 (sets_lines l.left xs t) (line 70 []) _ c.put-line-in-Finished.result inv.2.1 c.put-line-in-Finished.ensures over inv.2.2
+    puts_last c.args.out.now l.out c.put_line-in-Finished.new.out c.args.at l.next inv.2.0 (sets_lines l.left xs t) (line 70 []) _ c.put_line-in-Finished.result inv.2.1 c.put_line-in-Finished.ensures over inv.2.2
 
 pub returns-in-None : goal.returns-in-None
 returns-in-None c = λ keeps sized.
@@ -42,10 +42,10 @@ returns-in-None c = λ keeps sized.
     let n : size_of c.args.state.now.straight ≡ size - 0 = sym (sub-zero size ∙ c.places-size.ensures) in
     let found = lines-set xs t l.left c.in-Ok.answer l.page page (to_come c.advance.new.self) (c.in-Ok.ensures.is inv.0) (size_of c.args.state.now.straight) c.in-Set.is inv.1 in
     let first = found.0 ∙ ap (λ k. set_line xs (take k page) ++ sets_lines (l.left - c.in-Ok.answer.steps) xs (to_come c.advance.new.self)) n in
-    puts_stop c.args.out.now l.out c.put-set.new.out c.args.at l.next inv.2.0 (sets_lines l.left xs t) (set_line xs (take (size - 0) page)) _ _ inv.2.1 c.in-None.ensures first inv.2.2
+    puts_stop c.args.out.now l.out c.put_set.new.out c.args.at l.next inv.2.0 (sets_lines l.left xs t) (set_line xs (take (size - 0) page)) _ _ inv.2.1 c.in-None.ensures first inv.2.2
 
-pub put-set-requires : goal.put-set-requires
-put-set-requires c = let small = c.args.state.now.straight.work.frontier.root.small in omega (arith, c.places-size.ensures, c.advance.auto.page, c.sets.invariant.0, length-take-le (c.places-size.result - 0) c.advance.new.page (omega (arith, c.places-size.ensures, small, c.advance.auto.page, c.sets.invariant.0)))
+pub put_set-requires : goal.put_set-requires
+put_set-requires c = let small = c.args.state.now.straight.work.frontier.root.small in omega (arith, c.places-size.ensures, c.advance.auto.page, c.sets.invariant.0, length-take-le (c.places-size.result - 0) c.advance.new.page (omega (arith, c.places-size.ensures, small, c.advance.auto.page, c.sets.invariant.0)))
 
 pub sets-preserved : goal.sets-preserved
 sets-preserved c =
@@ -66,6 +66,6 @@ sets-preserved c =
           let first = found.0 ∙ ap (λ k. set_line xs (take k page) ++ sets_lines (l.left - c.in-Ok.answer.steps) xs (to_come c.advance.new.self)) n in (
             told.kept inv.0,
             found.1,
-            puts_on c.args.out.now l.out c.put-set.new.out c.args.at l.next c.in-Some.behind inv.2.0 (sets_lines l.left xs t) (set_line xs (take (size - 0) page)) _ _ inv.2.1 c.in-Some.ensures first inv.2.2,
+            puts_on c.args.out.now l.out c.put_set.new.out c.args.at l.next c.in-Some.behind inv.2.0 (sets_lines l.left xs t) (set_line xs (take (size - 0) page)) _ _ inv.2.1 c.in-Some.ensures first inv.2.2,
           ),
     )

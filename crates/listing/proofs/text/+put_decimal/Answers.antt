@@ -8,16 +8,16 @@ pub returns-then-n-lt10 : goal.returns-then-n-lt10
 returns-then-n-lt10 t c =
     subst (λ bs. Puts c.args.out.now c.args.at bs c.put.result c.put.new.out) (sym (decimal_digit c.args.n c.if-n-lt10.true)) c.put.ensures
 
-pub returns-in-default : goal.returns-in-default
-returns-in-default t c =
+pub returns-in_default : goal.returns-in_default
+returns-in_default t c =
     let n = c.args.n in
     let fits : n < 2 ^ 64 = omega arith in
     subst (λ bs. length c.args.out.now < c.args.at + length bs) (sym (decimal_step n c.if-n-lt10.false fits))
-    (puts_short c.args.out.now c.args.out.now c.args.out.now c.args.at (decimal (n / 10)) ((48 + n % 10) ∷ []) c.in-default.ensures)
+    (puts_short c.args.out.now c.args.out.now c.args.out.now c.args.at (decimal (n / 10)) ((48 + n % 10) ∷ []) c.in_default.ensures)
 
 pub returns : goal.returns
 returns t c =
     let n = c.args.n in
     let fits : n < 2 ^ 64 = omega arith in
     subst (λ bs. Puts c.args.out.now c.args.at bs c.put-2.result c.put-2.new.out) (sym (decimal_step n c.if-n-lt10.false fits))
-    (puts_then c.args.out.now c.put-decimal.new.out c.put-2.new.out c.args.at c.in-Some.next (decimal (n / 10)) ((48 + n % 10) ∷ []) c.put-2.result c.in-Some.ensures c.put-2.ensures)
+    (puts_then c.args.out.now c.put_decimal.new.out c.put-2.new.out c.args.at c.in-Some.next (decimal (n / 10)) ((48 + n % 10) ∷ []) c.put-2.result c.in-Some.ensures c.put-2.ensures)

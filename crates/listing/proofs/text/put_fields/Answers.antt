@@ -11,13 +11,13 @@ pub loop-n-preserved : goal.loop-n-preserved
 loop-n-preserved c =
     let xs = c.args.numbers.now in
     let i = c.loop-n.n-index in
-    (omega arith, puts_field c.args.out.now c.loop-n.out c.put-field.new.out c.args.at c.loop-n.next xs i (get_or xs i 0) c.loop-n-test.true refl c.in-Some.behind c.loop-n.invariant.1 c.in-Some.ensures)
+    (omega arith, puts_field c.args.out.now c.loop-n.out c.put_field.new.out c.args.at c.loop-n.next xs i (get_or xs i 0) c.loop-n-test.true refl c.in-Some.behind c.loop-n.invariant.1 c.in-Some.ensures)
 
 pub returns-in-None : goal.returns-in-None
 returns-in-None c =
     let xs = c.args.numbers.now in
     let i = c.loop-n.n-index in
-    puts_cut c.args.out.now c.loop-n.out c.put-field.new.out c.args.at c.loop-n.next xs i (get_or xs i 0) c.loop-n-test.true refl c.loop-n.invariant.1 c.in-None.ensures
+    puts_cut c.args.out.now c.loop-n.out c.put_field.new.out c.args.at c.loop-n.next xs i (get_or xs i 0) c.loop-n-test.true refl c.loop-n.invariant.1 c.in-None.ensures
 
 pub returns : goal.returns
 returns c =
