@@ -1,62 +1,92 @@
-// Random cases: a roll, a question to it, and what its Search should tell. None: its calls do not agree with that.
+// Random cases: a roll, a question to it, and what its search should tell. None: the case does not agree.
 use crate::crossings::ask_crossed;
 use crate::dice::Dice;
+use crate::driving::*;
 use crate::rolls::{ask_amounts, ask_pairs};
 use crate::walking::*;
+use crossed::entries::columns_of;
+use std::alloc::Global;
+
+// What is compared.
+#[derive(Clone, Copy)]
+pub enum Compared {
+    Amounts,
+    Pairs,
+    Complements,
+    Crossed(u8),
+}
+
+// How many columns the rows have.
+fn columns_in(what: Compared) -> usize {
+    match what {
+        Compared::Amounts | Compared::Complements => 1,
+        Compared::Pairs => 2,
+        Compared::Crossed(d) => d as usize,
+    }
+}
 
 // A random row. Those of a straight roll rise with their height, so that each can be compared with each.
-fn draw_row(dice: &mut Dice, what: Compared, flat: u32) -> Row {
+fn draw_row(dice: &mut Dice, what: Compared, flat: [u32; 4]) -> Row {
     let height = dice.below(18);
     let mut row = [0; 4];
     for i in 0..4 {
-        if i < what.columns as usize {
-            row[i] = if what.crossed {
-                dice.amount(-4, 12)
-            } else {
-                let steps = if i == 0 { flat } else { 3 };
-                i64::from(height / steps.max(1)).saturating_sub(4)
+        if i < columns_in(what) {
+            row[i] = match what {
+                Compared::Crossed(_) => dice.amount(-4, 12),
+                _ => i64::from(height / flat[i].max(1)).saturating_sub(4),
             };
         }
     }
     row
 }
 
-// Up to eight random entries with different numbers, in the order in which they are entered.
-fn draw_book(dice: &mut Dice, what: Compared) -> [Line; 8] {
-    let most = dice.below(8) as usize;
-    let mut number = dice.below(31);
+// Random entries with different numbers, in the order in which they are entered.
+fn draw_book(heap: Global, dice: &mut Dice, what: Compared) -> Option<Vec<Line>> {
+    let most = dice.below(8);
+    let first = dice.below(31);
     let step = dice.below(30) + 1;
-    let flat = dice.below(4) + 1;
-    let line = Line {
-        key: 0,
-        row: [0; 4],
-        number,
-        entered: false,
-        struck: false,
-    };
-    let mut book = [line; 8];
-    for i in 0..8 {
-        let row = draw_row(dice, what, flat);
-        book[i] = Line {
-            key: if what.crossed {
-                0
-            } else {
-                row[0].saturating_add(row[1])
-            },
-            row,
-            number,
-            entered: i <= most,
-            struck: i > 0 && dice.below(8) == 0,
-        };
-        number = number.wrapping_add(step) % 31;
+    let flat = [dice.below(3) + 1, dice.below(3) + 1, 1, 1];
+    let mut book = Vec::new(heap);
+    for i in 0..8u32 {
+        if i <= most {
+            let number = first.wrapping_add(step.wrapping_mul(i)) % 31;
+            let line = Line {
+                key: if matches!(what, Compared::Crossed(_)) {
+                    number
+                } else {
+                    0
+                },
+                row: draw_row(dice, what, flat),
+                number,
+                struck: i > 0 && dice.below(8) == 0,
+            };
+            book.push(line).ok()?;
+        }
     }
-    book
+    Some(book)
+}
+
+// The entries that stand at last, in place order.
+fn standing(heap: Global, book: &[Line]) -> Option<Vec<Line>> {
+    let mut lines = Vec::new(heap);
+    for line in book {
+        if !line.struck {
+            lines.push(*line).ok()?;
+        }
+    }
+    lines.sort().ok()?;
+    Some(lines)
 }
 
 // A random set of places; of all of them only where those need not leave any.
-fn draw_set(dice: &mut Dice, what: Compared, whole: u32) -> u32 {
-    let set = (dice.below(256) | (dice.below(256) & dice.below(256))) & whole;
-    if set == 0 || (set == whole && what.left) {
+fn draw_set(dice: &mut Dice, whole: u32, what: Compared) -> u32 {
+    let more = if dice.below(2) == 0 {
+        dice.below(256)
+    } else {
+        0
+    };
+    let set = (dice.below(256) | more) & whole;
+    if set == 0 || (set == whole && matches!(what, Compared::Complements)) {
         128
     } else {
         set
@@ -73,89 +103,91 @@ fn slack(dice: &mut Dice) -> i64 {
 }
 
 // A band around the total of a random set. One of four lies somewhat aside, so that it may be empty.
-fn draw_asked(dice: &mut Dice, what: Compared, held: &Held) -> Asked {
-    let set = draw_set(dice, what, held.whole);
+fn draw_asked(dice: &mut Dice, lines: &[Line], what: Compared) -> Asked {
+    let set = draw_set(dice, whole(lines), what);
     let aside = if dice.below(4) == 0 {
         dice.amount(-9, 19)
     } else {
         0
     };
-    let mut low = [0; 4];
-    let mut high = [0; 4];
+    let mut low = total(lines, set);
+    let mut high = low;
     for i in 0..4 {
-        if i < what.columns as usize {
-            let middle = total(&held.columns[i], set).saturating_add(aside);
-            low[i] = middle.saturating_sub(slack(dice));
-            high[i] = middle.saturating_add(slack(dice));
+        if i < columns_in(what) {
+            low[i] = low[i].saturating_add(aside).saturating_sub(slack(dice));
+            high[i] = high[i].saturating_add(aside).saturating_add(slack(dice));
         }
     }
+    let size = set.count_ones();
+    let left = false;
     Asked {
-        left: false,
-        size: set.count_ones(),
+        left,
+        size,
         low,
         high,
     }
 }
 
-// The most steps of a Search: one less than twice the sets of its size. On a crossed roll each sum of places may take as
-// many.
-fn most_steps(case: &Case) -> u32 {
-    let straight = case.wanted.among.saturating_mul(2).saturating_sub(1);
-    if case.what.crossed {
-        let size = case.asked.size;
-        let sums = size.saturating_mul(case.held.whole.count_ones().saturating_sub(size));
-        straight.saturating_mul(sums.saturating_add(1))
-    } else {
-        straight
+// The most steps of a search for `size` of `n` entries where there are so many sets. On a crossed roll each sum of places
+// may take as many as a straight search.
+fn most_steps(what: Compared, n: usize, size: usize, sets: usize) -> usize {
+    let straight = sets.saturating_mul(2).saturating_sub(1);
+    match what {
+        Compared::Crossed(_) => straight.saturating_mul(
+            size.saturating_mul(n.saturating_sub(size))
+                .saturating_add(1),
+        ),
+        _ => straight,
     }
 }
 
-// The steps of a question whose Search tells the wanted sets.
-fn ask(case: &Case, known: Option<u32>) -> Option<u32> {
-    if case.what.crossed {
-        ask_crossed(case, known)
-    } else if case.what.columns == 2 {
-        ask_pairs(case, known)
-    } else {
-        ask_amounts(case, known)
+// The run of a question.
+fn ask(
+    heap: Global,
+    dice: &mut Dice,
+    what: Compared,
+    book: &[Line],
+    asked: Asked,
+    known: Option<u32>,
+) -> Option<Run> {
+    match what {
+        Compared::Amounts | Compared::Complements => ask_amounts(heap, dice, book, asked, known),
+        Compared::Pairs => ask_pairs(heap, dice, book, asked, known),
+        Compared::Crossed(d) => ask_crossed(heap, dice, columns_of(d).ok()?, book, asked, known),
     }
 }
 
-// Whether a question tells what is wanted, with the most that can be allowed, and again with small allowances. Both times
-// it takes the same steps, and keeps to the most.
-fn agrees(case: &Case) -> bool {
-    let steps = ask(case, None);
-    match steps {
-        Some(all) => all <= most_steps(case) && ask(case, steps) == steps,
-        None => false,
-    }
+// The steps of a question that has the wanted list, and the same steps and list with small allowances.
+fn steps_of(
+    heap: Global,
+    dice: &mut Dice,
+    what: Compared,
+    book: &[Line],
+    asked: Asked,
+    wanted: &Vec<u32>,
+) -> Option<usize> {
+    let run = ask(heap, dice, what, book, asked, None)?;
+    let again = ask(heap, dice, what, book, asked, Some(run.steps))?;
+    expect(run.sets == *wanted && again.sets == *wanted && again.steps == run.steps)?;
+    Some(run.steps as usize)
 }
 
-// A random case.
-fn draw_case(dice: &mut Dice, what: Compared) -> Case {
-    let book = draw_book(dice, what);
-    let held = hold(&book);
-    let asked = draw_asked(dice, what, &held);
-    Case {
-        what,
-        book,
-        held,
-        asked,
-        wanted: wanted(what.crossed, &held, &asked),
-        dice: Dice::new(dice.below(1_000_000)),
+// One case: its lists are those of the walk, and it keeps to the most steps.
+pub fn compare(heap: Global, dice: &mut Dice, what: Compared) -> Option<()> {
+    let book = draw_book(heap, dice, what)?;
+    let lines = standing(heap, &book)?;
+    let mut asked = draw_asked(dice, &lines, what);
+    let sets = all_sets(heap, &lines, asked.size)?;
+    let mut wanted = in_band(heap, &lines, &sets, asked)?;
+    let most = most_steps(what, lines.len(), asked.size as usize, sets.len());
+    if matches!(what, Compared::Crossed(_)) {
+        wanted = by_place_sum(heap, &wanted)?;
     }
-}
-
-// Draws a case, and tells whether it agrees.
-pub fn compare(dice: &mut Dice, what: Compared) -> bool {
-    let mut case = draw_case(dice, what);
-    if !agrees(&case) {
-        return false;
+    expect(steps_of(heap, dice, what, &book, asked, &wanted)? <= most)?;
+    if matches!(what, Compared::Complements) && lines.len() > 1 {
+        wanted = complements(heap, whole(&lines), &wanted)?;
+        asked.left = true;
+        expect(steps_of(heap, dice, what, &book, asked, &wanted)? <= most)?;
     }
-    case.asked.left = what.left && case.held.whole != 128;
-    if !case.asked.left {
-        return true;
-    }
-    case.wanted = wanted(what.crossed, &case.held, &case.asked);
-    agrees(&case)
+    Some(())
 }

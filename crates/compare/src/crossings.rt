@@ -1,15 +1,17 @@
 // The crossed rolls that are asked.
-use crate::driving::{Advances, Fills, drive, fill};
-use crate::walking::{Asked, Case, Line, Row};
+use crate::dice::Dice;
+use crate::driving::{Advances, Run, drive};
+use crate::walking::{Asked, Line, Row};
 use crossed::asked::Question;
-use crossed::entries::{Amounts, Entry, columns_of};
-use crossed::rolls::{Roll, open};
 use crossing::asking::check;
+use crossed::entries::{Amounts, Columns, Entry};
 use crossing::ranks::Ranked;
+use crossed::rolls::{Roll, open};
 use crossing::state::{Search, begin};
-use exploring::state::Answer;
 use measure::Measure;
 use roll::refusal::Refusal;
+use exploring::state::Answer;
+use std::alloc::Global;
 
 impl<'t> Advances for Search<'t> {
     fn go_on(&mut self, allowance: u32, page: &mut [u16]) -> Result<Answer, Refusal> {
@@ -27,51 +29,43 @@ fn amounts_of(row: Row) -> Amounts {
     }
 }
 
-impl<'a> Fills for Roll<'a> {
-    fn put(&mut self, line: &Line) -> bool {
-        self.enter(Entry {
+// Enters all lines, and strikes those that are struck.
+fn fill(roll: &mut Roll, book: &[Line]) -> Result<(), Refusal> {
+    for line in book {
+        let amounts = amounts_of(line.row);
+        roll.enter(Entry {
             number: line.number,
-            amounts: amounts_of(line.row),
-        })
-        .is_ok()
+            amounts,
+        })?;
     }
-
-    fn take(&mut self, number: u32) -> bool {
-        self.strike(number).is_ok()
+    for line in book {
+        if line.struck {
+            roll.strike(line.number)?;
+        }
     }
+    Ok(())
 }
 
-// The question that is put to a crossed roll.
-fn question_of(asked: &Asked) -> Question {
-    Question {
-        size: asked.size as usize,
-        low: amounts_of(asked.low),
-        high: amounts_of(asked.high),
-    }
-}
-
-// The steps of a question to a filled crossed roll.
-fn run_crossed(roll: &Roll, case: &Case, known: Option<u32>) -> Option<u32> {
-    let question = question_of(&case.asked);
-    let mut table = [Ranked::nothing(); 38];
-    if check(roll, question, &table).is_err() {
-        return None;
-    }
-    let mut state = begin(roll, question, &mut table);
-    drive(&mut state, case, known)
-}
-
-// The steps of a question to a crossed roll whose Search tells the wanted sets.
-pub fn ask_crossed(case: &Case, known: Option<u32>) -> Option<u32> {
-    let Ok(columns) = columns_of(case.what.columns) else {
-        return None;
-    };
+// The run of a question to a crossed roll.
+pub fn ask_crossed(
+    heap: Global,
+    dice: &mut Dice,
+    columns: Columns,
+    book: &[Line],
+    asked: Asked,
+    known: Option<u32>,
+) -> Option<Run> {
     let amounts = amounts_of([0; 4]);
     let mut cells = [Entry { number: 0, amounts }; 8];
     let mut roll = open(&mut cells, columns);
-    if fill(&mut roll, &case.book) {
-        run_crossed(&roll, case, known)
-    } else {
-        None
-    }
+    fill(&mut roll, book).ok()?;
+    let question = Question {
+        size: asked.size as usize,
+        low: amounts_of(asked.low),
+        high: amounts_of(asked.high),
+    };
+    let mut table = [Ranked::nothing(); 38];
+    check(&roll, question, &table).ok()?;
+    let mut search = begin(&roll, question, &mut table);
+    drive(heap, dice, &mut search, asked.size, known)
 }

@@ -1,90 +1,74 @@
-// Rolls that are filled, and Searches that are run from their begin to their end. None: a call does what it may not.
-use crate::walking::{Case, Line};
-use exploring::state::{Answer, Told};
+// Runs of a search from its begin to its end. None: an advance tells what it may not, or there is no memory.
+use crate::dice::Dice;
 use roll::refusal::Refusal;
+use exploring::state::{Answer, Told};
+use std::alloc::Global;
 
-// A roll that can be filled.
-pub trait Fills {
-    // Enters a line; false if it is refused.
-    fn put(&mut self, line: &Line) -> bool;
-
-    // Strikes the entry with the number; false if that is refused.
-    fn take(&mut self, number: u32) -> bool;
-}
-
-// A Search that can be advanced.
+// A search that can be advanced.
 pub trait Advances {
     fn go_on(&mut self, allowance: u32, page: &mut [u16]) -> Result<Answer, Refusal>;
 }
 
-// Enters the lines that are entered, and strikes those that are struck; false if a call is refused.
-pub fn fill<R: Fills>(roll: &mut R, book: &[Line; 8]) -> bool {
-    for line in book {
-        if line.entered && !roll.put(line) {
-            return false;
-        }
-    }
-    for line in book {
-        if line.entered && line.struck && !roll.take(line.number) {
-            return false;
-        }
-    }
-    true
+// What a search told in all: its sets in turn, and its steps.
+#[derive(Drop)]
+pub struct Run {
+    pub sets: Vec<u32>,
+    pub steps: u32,
 }
 
-// Whether a page has the places of a set, rising, and the rest of it as it was, all zero.
-fn has(page: &[u16], set: u32) -> bool {
-    let mut rest = set;
+// A case goes on only if this holds.
+pub fn expect(holds: bool) -> Option<()> {
+    if holds { Some(()) } else { None }
+}
+
+// The set on a page: so many places, rising, and the rest of the page as it was, all zero.
+fn set_on(page: &[u16], size: u32) -> Option<u32> {
+    let mut set = 0u32;
+    let mut last = 0;
     for place in page {
-        let bit = 256 >> (*place).min(9);
-        if rest == 0 {
-            if *place != 0 {
-                return false;
-            }
-        } else if rest < bit || bit <= rest / 2 {
-            return false;
+        if set.count_ones() < size {
+            expect(last < *place && *place <= 8)?;
+            set |= 256 >> (*place).min(8);
+            last = *place;
         } else {
-            rest ^= bit;
+            expect(*place == 0)?;
         }
     }
-    rest == 0
+    expect(set.count_ones() == size)?;
+    Some(set)
 }
 
-// Whether an advance keeps to its allowance, and tells the set, none at its end, or that all the allowance is spent and
-// steps are still to come.
-fn is_right(answer: Answer, page: &[u16], allowance: u32, set: u32, to_come: bool) -> bool {
-    let told = match answer.told {
-        Told::Set => set != 0 && has(page, set),
-        Told::Spent => to_come && answer.steps == allowance && has(page, 0),
-        Told::Finished => set == 0 && has(page, 0),
-    };
-    told && answer.steps <= allowance
-}
-
-// The steps of a Search that tells the wanted sets in turn. It is advanced to its end with the most that can be allowed,
-// or, where all its steps are known, with up to three at a time.
-pub fn drive<S: Advances>(state: &mut S, case: &Case, known: Option<u32>) -> Option<u32> {
-    let mut dice = case.dice;
-    let mut told = 0usize;
+// Advances a search to its end: with the most that can be allowed, or, where all its steps are known, with up to three
+// at a time. Each advance keeps to its allowance, and is spent only with all of it and with steps still to come.
+pub fn drive<S: Advances>(
+    heap: Global,
+    dice: &mut Dice,
+    search: &mut S,
+    size: u32,
+    known: Option<u32>,
+) -> Option<Run> {
+    let mut sets = Vec::new(heap);
     let mut steps = 0u32;
     for _ in 0..20_000 {
-        let (allowance, last) = match known {
-            Some(all) => (dice.below(4), all),
-            None => (u32::MAX, 0),
+        let allowance = if known.is_some() {
+            dice.below(4)
+        } else {
+            u32::MAX
         };
         let mut page = [0; 9];
-        let Ok(answer) = state.go_on(allowance, &mut page) else {
-            return None;
-        };
+        let answer = search.go_on(allowance, &mut page).ok()?;
         steps = steps.saturating_add(answer.steps);
-        let set = if told < 70 { case.wanted.sets[told] } else { 0 };
-        if !is_right(answer, &page, allowance, set, steps < last) {
-            return None;
-        }
+        expect(answer.steps <= allowance)?;
         match answer.told {
-            Told::Set => told = told.saturating_add(1),
-            Told::Spent => {}
-            Told::Finished => return Some(steps),
+            Told::Set => sets.push(set_on(&page, size)?).ok()?,
+            Told::Spent => {
+                set_on(&page, 0)?;
+                expect(answer.steps == allowance && steps < known.unwrap_or(0))?;
+            }
+            Told::Finished => {
+                set_on(&page, 0)?;
+                return Some(Run { sets, steps });
+            }
         }
     }
     None

@@ -1,4 +1,4 @@
-// Compares the Searches with a walk over all sets, on small rolls from a fixed source of chance, and prints for each
+// Compares the searches with a walk over all sets, on small rolls from a fixed source of chance, and prints for each
 // kind of case how many agreed.
 mod cases;
 mod crossings;
@@ -7,47 +7,32 @@ mod driving;
 mod rolls;
 mod walking;
 
-use cases::compare;
+use cases::{Compared, compare};
 use dice::Dice;
 use std::io;
-use walking::Compared;
 
 // How many cases each kind has.
 const CASES: u32 = 4_000;
 
 // Compares all cases of a kind, and prints how many agreed. A crossed roll has one to four columns in turn.
-fn report(rt: &HostRuntime, seed: u32, name: &str, kind: Compared) -> io::Result<()> {
-    let mut dice = Dice::new(seed);
+fn report(rt: &HostRuntime, dice: &mut Dice, name: &str, kind: Compared) -> io::Result<()> {
     let mut agreed = 0u32;
-    let mut what = kind;
-    for _ in 0..CASES {
-        if kind.crossed {
-            what.columns = what.columns % 4 + 1;
-        }
-        if compare(&mut dice, what) {
+    for i in 0..CASES {
+        let what = match kind {
+            Compared::Crossed(_) => Compared::Crossed((i % 4) as u8 + 1),
+            _ => kind,
+        };
+        if compare(rt.alloc(), dice, what).is_some() {
             agreed = agreed.saturating_add(1);
         }
     }
     println!(rt; "{name} {agreed} of {CASES}")
 }
 
-// What is compared on straight rolls of so many columns.
-fn straight(columns: u8, left: bool) -> Compared {
-    Compared {
-        columns,
-        crossed: false,
-        left,
-    }
-}
-
 fn main(rt: HostRuntime) -> io::Result<()> {
-    report(&rt, 20_240_229, "amounts", straight(1, false))?;
-    report(&rt, 20_240_301, "pairs", straight(2, false))?;
-    report(&rt, 20_240_302, "complements", straight(1, true))?;
-    let crossed = Compared {
-        columns: 4,
-        crossed: true,
-        left: false,
-    };
-    report(&rt, 20_240_303, "crossed", crossed)
+    let mut dice = Dice::new();
+    report(&rt, &mut dice, "amounts", Compared::Amounts)?;
+    report(&rt, &mut dice, "pairs", Compared::Pairs)?;
+    report(&rt, &mut dice, "complements", Compared::Complements)?;
+    report(&rt, &mut dice, "crossed", Compared::Crossed(1))
 }

@@ -1,12 +1,14 @@
-// The straight rolls that are asked: of amounts, and of two amounts side by side.
-use crate::driving::{Advances, Fills, drive, fill};
-use crate::walking::{Asked, Case, Line, Row};
-use exploring::state::{Answer, Search};
+// The rolls that are asked: of amounts, of two amounts side by side, and crossed ones.
+use crate::dice::Dice;
+use crate::driving::{Advances, Run, drive};
+use crate::walking::{Asked, Line, Row};
 use measure::{Cents, Measure, Pair};
 use question::asking::{Question, Side};
 use question::beginning::{begin, check};
 use roll::refusal::Refusal;
 use roll::straight::{Entry, Roll, open};
+use exploring::state::{Answer, Search};
+use std::alloc::Global;
 
 impl<'t, M: Measure> Advances for Search<'t, M> {
     fn go_on(&mut self, allowance: u32, page: &mut [u16]) -> Result<Answer, Refusal> {
@@ -35,22 +37,25 @@ impl Kind for Pair<Cents, Cents> {
     }
 }
 
-impl<'a, M: Kind> Fills for Roll<'a, M> {
-    fn put(&mut self, line: &Line) -> bool {
-        self.enter(Entry {
+// Enters all lines, and strikes those that are struck.
+fn fill<M: Kind>(roll: &mut Roll<M>, book: &[Line]) -> Result<(), Refusal> {
+    for line in book {
+        let value = M::of(line.row);
+        roll.enter(Entry {
             number: line.number,
-            value: M::of(line.row),
-        })
-        .is_ok()
+            value,
+        })?;
     }
-
-    fn take(&mut self, number: u32) -> bool {
-        self.strike(number).is_ok()
+    for line in book {
+        if line.struck {
+            roll.strike(line.number)?;
+        }
     }
+    Ok(())
 }
 
 // The question that is put to a straight roll.
-fn question_of<M: Kind>(asked: &Asked) -> Question<M> {
+fn question_of<M: Kind>(asked: Asked) -> Question<M> {
     Question {
         side: if asked.left { Side::Left } else { Side::Paid },
         size: asked.size as usize,
@@ -59,48 +64,42 @@ fn question_of<M: Kind>(asked: &Asked) -> Question<M> {
     }
 }
 
-// The steps of a question to a filled roll of amounts.
-fn run_amounts(roll: &Roll<Cents>, case: &Case, known: Option<u32>) -> Option<u32> {
-    let question = question_of(&case.asked);
-    let mut table = [Cents::nothing(); 38];
-    if check(roll, question, &table).is_err() {
-        return None;
-    }
-    let mut state = begin(roll, question, &mut table);
-    drive(&mut state, case, known)
-}
-
-// The steps of a question to a roll of amounts whose Search tells the wanted sets.
-pub fn ask_amounts(case: &Case, known: Option<u32>) -> Option<u32> {
+// The run of a question to a roll of amounts.
+pub fn ask_amounts(
+    heap: Global,
+    dice: &mut Dice,
+    book: &[Line],
+    asked: Asked,
+    known: Option<u32>,
+) -> Option<Run> {
     let value = Cents::nothing();
     let mut cells = [Entry { number: 0, value }; 8];
     let mut roll = open(&mut cells);
-    if fill(&mut roll, &case.book) {
-        run_amounts(&roll, case, known)
-    } else {
-        None
-    }
+    fill(&mut roll, book).ok()?;
+    let question = question_of(asked);
+    let mut table = [value; 38];
+    check(&roll, question, &table).ok()?;
+    let mut search = begin(&roll, question, &mut table);
+    let size = search.places().min(8) as u32;
+    drive(heap, dice, &mut search, size, known)
 }
 
-// The steps of a question to a filled roll of two amounts side by side.
-fn run_pairs(roll: &Roll<Pair<Cents, Cents>>, case: &Case, known: Option<u32>) -> Option<u32> {
-    let question = question_of(&case.asked);
-    let mut table = [Pair::<Cents, Cents>::nothing(); 38];
-    if check(roll, question, &table).is_err() {
-        return None;
-    }
-    let mut state = begin(roll, question, &mut table);
-    drive(&mut state, case, known)
-}
-
-// The steps of a question to a roll of two amounts side by side whose Search tells the wanted sets.
-pub fn ask_pairs(case: &Case, known: Option<u32>) -> Option<u32> {
+// The run of a question to a roll of two amounts side by side.
+pub fn ask_pairs(
+    heap: Global,
+    dice: &mut Dice,
+    book: &[Line],
+    asked: Asked,
+    known: Option<u32>,
+) -> Option<Run> {
     let value = Pair::<Cents, Cents>::nothing();
     let mut cells = [Entry { number: 0, value }; 8];
     let mut roll = open(&mut cells);
-    if fill(&mut roll, &case.book) {
-        run_pairs(&roll, case, known)
-    } else {
-        None
-    }
+    fill(&mut roll, book).ok()?;
+    let question = question_of(asked);
+    let mut table = [value; 38];
+    check(&roll, question, &table).ok()?;
+    let mut search = begin(&roll, question, &mut table);
+    let size = search.places().min(8) as u32;
+    drive(heap, dice, &mut search, size, known)
 }
