@@ -3,14 +3,14 @@ use crate::dice::Dice;
 use crate::driving::{Advances, Run, drive};
 use crate::walking::{Asked, Line, Row};
 use crossed::asked::Question;
-use crossing::asking::check;
 use crossed::entries::{Amounts, Columns, Entry};
-use crossing::ranks::Ranked;
 use crossed::rolls::{Roll, open};
+use crossing::asking::check;
+use crossing::ranks::Ranked;
 use crossing::state::{Search, begin};
+use exploring::state::Answer;
 use measure::Measure;
 use roll::refusal::Refusal;
-use exploring::state::Answer;
 use std::alloc::Global;
 
 impl<'t> Advances for Search<'t> {

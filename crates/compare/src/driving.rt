@@ -1,7 +1,7 @@
 // Runs of a search from its begin to its end. None: an advance tells what it may not, or there is no memory.
 use crate::dice::Dice;
-use roll::refusal::Refusal;
 use exploring::state::{Answer, Told};
+use roll::refusal::Refusal;
 use std::alloc::Global;
 
 // A search that can be advanced.

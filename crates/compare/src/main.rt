@@ -1,5 +1,7 @@
 // Compares the searches with a walk over all sets, on small rolls from a fixed source of chance, and prints for each
 // kind of case how many agreed.
+#![tactic(auto)]
+
 mod cases;
 mod crossings;
 mod dice;

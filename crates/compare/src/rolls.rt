@@ -2,12 +2,12 @@
 use crate::dice::Dice;
 use crate::driving::{Advances, Run, drive};
 use crate::walking::{Asked, Line, Row};
+use exploring::state::{Answer, Search};
 use measure::{Cents, Measure, Pair};
 use question::asking::{Question, Side};
 use question::beginning::{begin, check};
 use roll::refusal::Refusal;
 use roll::straight::{Entry, Roll, open};
-use exploring::state::{Answer, Search};
 use std::alloc::Global;
 
 impl<'t, M: Measure> Advances for Search<'t, M> {

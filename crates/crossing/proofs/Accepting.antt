@@ -1,7 +1,6 @@
 -- What an accepted question and the entries of a roll are known to be.
-use Rattle.std.proofs.Common.{◌≡◌, ℕ, ◌≤◌, Bool, true, not, ◌&&◌, ltb, leb, List, length, ℤ, pos, ◌≤ℤ◌, Ok, sym, subst, arith}
-use lib.Signed.{le_z, lt_z}
-use Rattle.std.specs.List.{AllByRecursion}
+use Rattle.std.proofs.Common.{◌≡◌, ℕ, ◌≤◌, Bool, true, ◌&&◌, ltb, leb, List, ℤ, pos, ◌≤ℤ◌, Ok, arith}
+use lib.Signed.{le_z}
 use Rattle.std.proofs.ByRecursion.{All-weaker}
 use Rattle.std.proofs.lemmas.Bool.{and_parts, ltb-true, leb-true}
 use Rattle.std.proofs.lemmas.Int.{ints}

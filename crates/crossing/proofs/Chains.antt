@@ -1,10 +1,10 @@
 -- A run over one trace and then another, and the rank totals that are left.
-use Rattle.std.proofs.Common.{◌≡◌, ℕ, zero, suc, ◌+◌, ◌-◌, ◌<◌, ◌≤◌, List, [], ◌∷◌, ◌++◌, Some, None, sym, refl, ap, ◌∙◌, add-zero, arith}
+use Rattle.std.proofs.Common.{◌≡◌, ℕ, zero, suc, ◌+◌, ◌-◌, ◌<◌, ◌≤◌, [], ◌∷◌, ◌++◌, Some, None, sym, refl, ap, ◌∙◌, add-zero, arith}
 use Rattle.std.specs.List.{range_with_len, flat_map}
 use Rattle.sets.specs.Trace.{Trace}
 use Rattle.sets.specs.Advance.{End, set, spent, finished, Run, run}
 use Rattle.exploring.specs.Meaning.{told_of}
-use Rattle.exploring.specs.declared.state.Told.TheVariants.{Set, Spent, Finished}
+use Rattle.exploring.specs.declared.state.Told.TheVariants.{Finished}
 
 -- how a run goes on over ys after n steps over the trace before, with so many steps allowed in all and others counted already
 abbrev goes_on : Trace → ℕ → ℕ → End → ℕ → Trace → Run

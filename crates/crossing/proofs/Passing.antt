@@ -1,5 +1,5 @@
 -- Passing on from one rank total to the next, and what an advance tells of all of them.
-use Rattle.std.proofs.Common.{◌≡◌, ℕ, ◌+◌, ◌-◌, ◌<◌, ◌≤◌, List, [], ◌++◌, drop, sym, refl, ap, ◌∙◌, subst, arith}
+use Rattle.std.proofs.Common.{◌≡◌, ℕ, ◌+◌, ◌-◌, ◌<◌, List, [], ◌++◌, drop, sym, refl, ap, ◌∙◌, subst, arith}
 use Rattle.measure.specs.Algebra.{Row}
 use Rattle.sets.specs.Trace.{Trace}
 use Rattle.sets.specs.Crossed.{shadow}
@@ -10,9 +10,8 @@ use Rattle.exploring.specs.declared.state.Search.{Search as Straight}
 use Rattle.exploring.specs.Meaning.{planned, count_of, size_of, table_of, told_of, Ran, Same}
 use Rattle.exploring.proofs.Rooting.{same-sound}
 use Rattle.crossing.specs.Ranks.{Rank, ranks, rank_row, rank_span, row_of}
-use Rattle.crossing.specs.Meaning.{Moderate, Keeps, rank_items, later, next_of, later_than}
+use Rattle.crossing.specs.Meaning.{Moderate, Keeps, rank_items, later, next_of}
 use Rattle.crossing.specs.declared.state.Course.{Course}
-use Rattle.crossing.specs.declared.state.Search.{Search}
 use Rattle.crossing.proofs.Chains.{run_ends, run_passes, run-over, joined-next}
 
 -- what is moderate stays so from rank total to rank total

@@ -1,5 +1,5 @@
 -- The straight Search over shadows, and what the crossed Search of an accepted question has to come.
-use Rattle.std.proofs.Common.{◌≡◌, ℕ, suc, ◌+◌, ◌-◌, ◌*◌, ◌/◌, ◌<◌, ◌≤◌, Bool, true, cond, ◌&&◌, ltb, leb, List, [], ◌∷◌, ◌++◌, length, get_or, drop, ℤ, pos, ◌≤ℤ◌, Ok, sym, refl, ap, ◌∙◌, subst, ap₂, mul-le-mul_right, mul-le-mul, mul-le-mul_left, arith}
+use Rattle.std.proofs.Common.{◌≡◌, ℕ, suc, ◌+◌, ◌-◌, ◌*◌, ◌/◌, ◌≤◌, true, ◌&&◌, ltb, leb, List, [], ◌∷◌, ◌++◌, length, get_or, drop, ℤ, pos, ◌≤ℤ◌, Ok, sym, refl, ap, ◌∙◌, subst, ap₂, mul-le-mul_right, mul-le-mul_left, arith}
 use lib.Signed.{le_z}
 use Rattle.std.specs.List.{range_with_len, flat_map}
 use Rattle.std.proofs.lemmas.List.{length-map}

@@ -1,5 +1,5 @@
 -- What the second call of a question to a crossed roll gives.
-use Rattle.std.specs.Prelude.{◌≡◌, ℕ, ◌+◌, ◌≤◌, List, [], ◌∷◌, map, length, drop, pos, ◌≤ℤ◌, Ok, Err, Result, slice_index_or}
+use Rattle.std.specs.Prelude.{◌≡◌, ℕ, ◌+◌, ◌≤◌, List, [], ◌∷◌, length, drop, pos, ◌≤ℤ◌, Ok, Err, Result, slice_index_or}
 use Rattle.std.specs.List.{AllByRecursion}
 use Rattle.measure.specs.Algebra.{Row}
 use Rattle.sets.specs.Crossed.{falls, shadows, crossed, least_total, greatest_total}

@@ -1,4 +1,6 @@
 // Reads a roll file from standard input and prints its listing; nothing, if the listing does not fit its output.
+#![tactic(auto)]
+
 ghost use Rattle.std.specs.Prelude.{◌≤◌, length, IfOk};
 
 use listing::listing::list;

@@ -1,4 +1,6 @@
 // Tests at the edges of the refusals, in a crate of their own: a crate with tests is proved twice.
+#![tactic(auto)]
+
 ghost use Rattle.std.specs.Prelude.{◌≡◌, Ok, Err};
 ghost use Rattle.roll.specs.Refusals.{number_of};
 

@@ -1,5 +1,5 @@
 -- The lines that are written so far, and those that are left, while the records of a file are gone through.
-use Rattle.std.proofs.Common.{◌≡◌, ℕ, suc, ◌+◌, ◌<◌, ◌≤◌, List, [], ◌∷◌, ◌++◌, length, get_or, drop, Some, None, Ok, Err, Option, Result, sym, refl, ap, ◌∙◌, subst, append-nil, arith}
+use Rattle.std.proofs.Common.{◌≡◌, ℕ, suc, ◌+◌, ◌<◌, ◌≤◌, List, [], ◌++◌, length, get_or, drop, Some, None, Ok, Err, Result, sym, refl, ap, ◌∙◌, subst, append-nil, arith}
 use Rattle.roll.specs.declared.refusal.Refusal.{Refusal}
 use Rattle.crossed.specs.declared.asked.Question.{Question}
 use Rattle.crossed.specs.declared.entries.Columns.{Columns}
@@ -8,7 +8,7 @@ use Rattle.records.specs.declared.reader.Fault.{Fault}
 use Rattle.records.specs.Records.{Rec, size_of, next_of}
 use Rattle.listing.specs.Text.{Puts}
 use Rattle.listing.specs.Listing.{question_in, question_lines, record_lines, asked_so_far, before, tried, lines}
-use Rattle.listing.proofs.Written.{puts_last, puts_stop, puts_on}
+use Rattle.listing.proofs.Written.{puts_stop, puts_on}
 use Rattle.listing.proofs.Going.{step_fault, step_end, step_refused, step_on, asks, asks_none}
 
 -- what is left of the lines is in order, and makes the text with what is written

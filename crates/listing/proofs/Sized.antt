@@ -1,5 +1,5 @@
 -- The sets of an accepted question have as many places as it names.
-use Rattle.std.proofs.Common.{◌≡◌, ℕ, ◌<◌, ◌≤◌, List, [], ◌∷◌, length, sym, refl, ap, ◌∙◌, subst, inl, inr, arith}
+use Rattle.std.proofs.Common.{◌≡◌, ◌≤◌, List, [], ◌∷◌, length, sym, refl, subst, inl, inr, arith}
 use Rattle.std.specs.List.{AllByRecursion}
 use Rattle.std.proofs.lemmas.List.{length-map}
 use Rattle.sets.specs.Orders.{In}
@@ -11,7 +11,7 @@ use Rattle.crossed.specs.declared.asked.Question.{Question}
 use Rattle.crossed.specs.declared.entries.Entry.{Entry}
 use Rattle.crossing.specs.Ranks.{Rank, row_of, rows_of}
 use Rattle.crossing.specs.Meaning.{to_come}
-use Rattle.crossing.specs.Beginning.{Fits, Starts}
+use Rattle.crossing.specs.Beginning.{Starts}
 use Rattle.crossing.specs.declared.state.Search.{Search}
 use Rattle.listing.specs.Listing.{coming}
 

@@ -1,5 +1,5 @@
 -- Amounts: rows of one whole number, in cents.
-use Rattle.std.specs.Prelude.{ℕ, ◌+◌, ◌*◌, ◌/◌, ◌≤◌, List, [], ◌∷◌, length, ℤ, pos, ◌+ℤ◌, neg_ℤ, ◌==◌, int_le, slice_index_or, unsigned_abs}
+use Rattle.std.specs.Prelude.{ℕ, ◌+◌, ◌*◌, ◌/◌, ◌≤◌, [], ◌∷◌, length, ℤ, pos, ◌+ℤ◌, neg_ℤ, ◌==◌, int_le, slice_index_or, unsigned_abs}
 use Rattle.measure.specs.Algebra.{Algebra, Row}
 
 -- the number of a row

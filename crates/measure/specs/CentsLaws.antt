@@ -1,5 +1,5 @@
 -- The laws of cents.
-use Rattle.std.specs.Prelude.{◌≡◌, true, List, [], ◌∷◌, length, ℤ, ◌+ℤ◌, int_le, refl}
+use Rattle.std.specs.Prelude.{◌≡◌, true, [], ◌∷◌, length, ℤ, ◌+ℤ◌, int_le, refl}
 use Rattle.std.proofs.Common.{sym, ap, ◌∙◌, arith}
 use Rattle.std.proofs.Math.IntN.{+ℤ_comm, +ℤ_assoc, +ℤ_idr, +ℤ_invr}
 use Rattle.std.proofs.lemmas.Bool.{eqb-true, false≢true}

@@ -1,5 +1,5 @@
 -- The laws of two kinds side by side, from the laws of each.
-use Rattle.std.specs.Prelude.{◌≡◌, Bool, true, ◌&&◌, List, ◌++◌, length, take, drop, ℤ}
+use Rattle.std.specs.Prelude.{◌≡◌, Bool, ◌&&◌, ◌++◌, length, take, drop}
 use Rattle.std.proofs.Common.{sym, ap, ◌∙◌, length-append, take-append-drop, take_at, drop_at}
 use Rattle.std.proofs.lemmas.Bool.{and_parts, and_from}
 use Rattle.measure.specs.Algebra.{Row, Algebra, Laws, Own, NotAbove, joined}

@@ -1,4 +1,6 @@
 // Kinds of amount. A kind is known by what its values mean: rows of whole numbers that add and compare.
+#![tactic(auto)]
+
 ghost use Rattle.std.specs.Prelude.{◌≡◌, ℕ, ◌+◌, ◌≤◌, max, List, [], ◌∷◌, ◌++◌, ℤ, nat_le};
 ghost use Rattle.measure.specs.Algebra.{Algebra, Laws, Own, joined};
 ghost use Rattle.measure.specs.Cents.{cents, span_of, SpanLeast};

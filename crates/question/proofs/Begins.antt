@@ -1,19 +1,19 @@
 -- A search over a written table has to come what its question asks for.
-use Rattle.std.proofs.Common.{◌≡◌, ℕ, ◌+◌, ◌<◌, ◌≤◌, Bool, true, cond, ltb, leb, List, [], length, Ok, sym, ap, ◌∙◌, subst, ap₂, arith}
+use Rattle.std.proofs.Common.{◌≡◌, ℕ, ◌+◌, ◌≤◌, true, ltb, leb, List, [], length, Ok, sym, ap, ◌∙◌, subst, ap₂, arith}
 use Rattle.std.proofs.lemmas.Bool.{and_from, le-leb, lt-ltb, cond-true}
 use Rattle.measure.specs.Algebra.{Algebra, Row}
 use Rattle.sets.specs.Trace.{trace}
-use Rattle.roll.specs.Totals.{rows_of, Few, Totals}
+use Rattle.roll.specs.Totals.{rows_of, Few}
 use Rattle.roll.specs.declared.straight.Entry.{Entry}
-use Rattle.question.specs.Asking.{Needed, sought, asking, end, sought_low, sought_high}
+use Rattle.question.specs.Asking.{Needed, sought, asking, end}
 use Rattle.question.specs.Beginning.{Starts}
-use Rattle.question.specs.Filling.{Written, ends_at}
+use Rattle.question.specs.Filling.{Written}
 use Rattle.squeezing.specs.Table.{fits}
 use Rattle.exploring.specs.Meaning.{count_of, size_of, Begun}
 use Rattle.squeezing.specs.Table.{offset, entries}
 use Rattle.question.specs.declared.asking.Question.{Question}
 use Rattle.exploring.specs.declared.state.Search.{Search}
-use Rattle.question.proofs.Asked.{Accepted, accepted, end_is}
+use Rattle.question.proofs.Asked.{accepted, end_is}
 use Rattle.question.proofs.Writing.{ends_fit}
 
 fits_all : (n m cells : ℕ) → 1 ≤ m → m ≤ n → n ≤ 120 → offset n m ≤ cells → fits n m cells ≡ true

@@ -1,5 +1,5 @@
 -- Examples worked by hand: one table, and what the definitions must give of each row of it.
-use Rattle.std.specs.Prelude.{◌≡◌, ℕ, Bool, true, false, ◌&&◌, List, [], ◌∷◌, length, ℤ, pos, negsuc, Some, None, Ok, Err, Option, ◌==◌}
+use Rattle.std.specs.Prelude.{◌≡◌, ℕ, Bool, true, false, ◌&&◌, List, [], ◌∷◌, length, pos, negsuc, Some, None, Ok, Err, Option, ◌==◌}
 use Rattle.measure.specs.Algebra.{Algebra, Row, joined}
 use Rattle.measure.specs.Cents.{cents}
 use Rattle.sets.specs.Crossed.{crossed, crossed_solutions}

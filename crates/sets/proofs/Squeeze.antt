@@ -5,7 +5,7 @@ use Rattle.std.proofs.lemmas.Bool.{cases_lt, both_ways, and_parts, and_from}
 use Rattle.measure.specs.Algebra.{Algebra, Row, Laws, Own, NotAbove}
 use Rattle.sets.specs.Sets.{Rows, total, in_band}
 use Rattle.sets.specs.Spaces.{Space, same}
-use Rattle.sets.proofs.Forms.{then, at, lifted, topped, count_from, count_down, least, greatest, widths, sweep, choices, raise, lower, pass, squeeze, squeezed}
+use Rattle.sets.proofs.Forms.{then, at, lifted, topped, count_from, count_down, least, greatest, widths, sweep, choices, raise, lower, pass, squeeze}
 use Rattle.sets.proofs.Vectors.{Below, Rising, Upto, below_refl, below_trans, below_antisym, below_at, below_length, below_upto, rising-at, lifted-rising, lifted-least, lifted-more, lifted-same, at-lifted, topped-rising, topped-most, topped_less, topped-same, at-topped}
 use Rattle.sets.proofs.Totals.{total-own, total-climbs}
 use Rattle.sets.proofs.Choices.{Least, least_is, Greatest, greatest_is, count_from_below, count_down_below, same_true, same_self, widths_level}

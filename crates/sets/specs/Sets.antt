@@ -1,6 +1,6 @@
 -- Sets of places, their totals, and the list of solutions. Entries stand at places that count from 1; a set of places is
 -- written as the list of its places, rising.
-use Rattle.std.specs.Prelude.{◌≡◌, ℕ, zero, suc, ◌-◌, Bool, cond, ◌&&◌, List, [], ◌∷◌, ◌++◌, map, length, filter, ◌==◌, slice_index_or}
+use Rattle.std.specs.Prelude.{ℕ, zero, suc, ◌-◌, Bool, cond, ◌&&◌, List, [], ◌∷◌, ◌++◌, map, length, filter, ◌==◌, slice_index_or}
 use Rattle.std.specs.List.{AllByRecursion}
 use Rattle.measure.specs.Algebra.{Algebra, Row, Own, NotAbove}
 

@@ -1,7 +1,7 @@
 -- Spaces of sets, and squeezing. A space gives each position i, from 1 to m, a lowest and a highest place; it stands for
 -- the sets whose i-th place lies between the two. Squeezing raises the lowest places and lowers the highest ones as far as
 -- a band from low to high allows, without losing a set whose total lies in the band.
-use Rattle.std.specs.Prelude.{ℕ, zero, suc, ◌+◌, ◌-◌, min, max, Bool, true, false, cond, ◌&&◌, List, [], ◌∷◌, ◌++◌, map, length, set, Some, None, sum, Option, ◌==◌, nat_le, nat_lt, slice_index, slice_set}
+use Rattle.std.specs.Prelude.{ℕ, zero, suc, ◌+◌, ◌-◌, min, max, Bool, true, false, cond, ◌&&◌, List, [], ◌∷◌, map, length, Some, None, sum, Option, ◌==◌, nat_le, nat_lt, slice_index, slice_set}
 use Rattle.std.specs.List.{range_with_len}
 use Rattle.measure.specs.Algebra.{Algebra, Row}
 use Rattle.sets.specs.Sets.{total}

@@ -1,4 +1,6 @@
 // Sets of places and the Search for those whose totals lie in a band: definitions, and what holds of them.
+#![tactic(auto)]
+
 ghost use Rattle.sets.specs.Statements.{Complements, TraceFinds, TraceCounts};
 ghost use Rattle.sets.specs.Crossings.{CrossedFinds, CrossedSound, CrossedComplete, CrossedOrder, CrossedOnce, CrossedCounts};
 

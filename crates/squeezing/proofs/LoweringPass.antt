@@ -5,7 +5,7 @@ use Rattle.std.proofs.lemmas.List.{length-set, get_or-set_other, set-get_or}
 use Rattle.std.proofs.lemmas.List.Sums.{sum_by-set}
 use Rattle.std.proofs.lemmas.Bool.{true≢false, eqb-true, eqb-false}
 use Rattle.measure.specs.Algebra.{Algebra, Row}
-use Rattle.sets.specs.Spaces.{lower, lower_from, upto}
+use Rattle.sets.specs.Spaces.{lower, lower_from}
 use Rattle.squeezing.specs.Standing.{Back, Higher, Above}
 use Rattle.squeezing.proofs.Sums.{stands_none}
 use Rattle.squeezing.proofs.RaisingPass.{set_here, set-each}

@@ -1,10 +1,10 @@
 -- The part of a pass that raises: one position more, and all of them.
-use Rattle.std.proofs.Common.{◌≡◌, ℕ, zero, suc, ◌+◌, ◌-◌, ◌<◌, ◌≤◌, Bool, true, false, cond, not, ◌||◌, eqb, ◌⊎◌, List, length, get_or, set, Some, None, sum, Option, sym, refl, ap, ◌∙◌, subst, ⊎_elim, arith}
+use Rattle.std.proofs.Common.{◌≡◌, ℕ, zero, suc, ◌+◌, ◌-◌, ◌<◌, ◌≤◌, Bool, true, false, cond, not, ◌||◌, eqb, List, length, get_or, set, Some, None, sum, Option, sym, refl, ap, ◌∙◌, subst, ⊎_elim, arith}
 use Rattle.std.proofs.lemmas.List.{length-set, get_or-set_same, get_or-set_other, set-get_or}
 use Rattle.std.proofs.lemmas.List.Sums.{sum_by-set}
 use Rattle.std.proofs.lemmas.Bool.{true≢false, cases_eq, eqb-true, eqb-false}
 use Rattle.measure.specs.Algebra.{Algebra, Row}
-use Rattle.sets.specs.Spaces.{least, raise, raise_from}
+use Rattle.sets.specs.Spaces.{raise, raise_from}
 use Rattle.squeezing.specs.Standing.{Front, Lower, Above}
 
 -- the lower places before index i are raised: each at most its upper place, and rising

@@ -1,4 +1,4 @@
-use Rattle.std.proofs.Common.{◌≡◌, ◌≤◌, min, length, sym, subst, arith, length-take}
+use Rattle.std.proofs.Common.{◌≤◌, min, length, sym, subst, arith, length-take}
 use Rattle.crossed.specs.Rolls.{standing}
 use Rattle.crossing.specs.Ranks.{Ranged}
 use Rattle.crossing.specs.Beginning.{Fits, BeginsBy, Starts}

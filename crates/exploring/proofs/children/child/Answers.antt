@@ -1,4 +1,4 @@
-use Rattle.std.proofs.Common.{◌≡◌, ◌-◌, length, refl, ◌∙◌, arith}
+use Rattle.std.proofs.Common.{◌≡◌, length, refl, ◌∙◌, arith}
 use Rattle.exploring.proofs.Born.{rising_to, born, born_is, born_settled}
 use Rattle.exploring.proofs.children.child.Goals as goal
 

@@ -1,4 +1,4 @@
-use Rattle.std.proofs.Common.{◌≡◌, suc, ◌+◌, length, get_or, Some, None, Ok, Err, sym, ap, ◌∙◌, subst, arith}
+use Rattle.std.proofs.Common.{◌≡◌, suc, ◌+◌, length, get_or, Some, None, Ok, sym, ap, ◌∙◌, subst, arith}
 use Rattle.crossed.specs.Rolls.{standing, room_of}
 use Rattle.crossing.specs.Asking.{asking}
 use Rattle.records.specs.Records.{next_of, moved, plain, size_of, told}

@@ -1,4 +1,4 @@
-use Rattle.std.proofs.Common.{length, Ok, Err, ◌∙◌}
+use Rattle.std.proofs.Common.{length, ◌∙◌}
 use Rattle.listing.proofs.Going.{behind-heading, lines_of_is, lines_at}
 use Rattle.listing.proofs.listing.put_questions.Goals as goal
 

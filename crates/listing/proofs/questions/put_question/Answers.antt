@@ -1,11 +1,11 @@
-use Rattle.std.proofs.Common.{◌≡◌, ◌≤◌, min, [], ◌∷◌, ◌++◌, length, Some, None, sym, ap, subst, arith, length-take}
+use Rattle.std.proofs.Common.{◌≤◌, min, [], ◌∷◌, length, subst, arith, length-take}
 use Rattle.crossed.specs.Rolls.{standing}
 use Rattle.crossed.proofs.Kept.{always_well_formed}
 use Rattle.crossing.specs.Beginning.{BeginsBy}
 use Rattle.crossing.specs.Meaning.{to_come}
 use Rattle.crossing.proofs.Accepting.{accepted_fits}
 use Rattle.listing.specs.Text.{Puts, line}
-use Rattle.listing.specs.Listing.{coming, sets_lines, most_steps, question_lines}
+use Rattle.listing.specs.Listing.{coming, sets_lines, most_steps}
 use Rattle.listing.proofs.Written.{puts_then, puts_short}
 use Rattle.listing.proofs.Sized.{starts_sized}
 use Rattle.listing.proofs.questions.put_question.Goals as goal

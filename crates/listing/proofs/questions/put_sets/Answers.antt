@@ -1,11 +1,10 @@
-use Rattle.std.proofs.Common.{◌≡◌, ◌-◌, ◌≤◌, List, [], ◌++◌, length, take, Some, None, sym, refl, ap, ◌∙◌, subst, arith}
+use Rattle.std.proofs.Common.{◌≡◌, ◌-◌, [], ◌++◌, take, sym, refl, ap, ◌∙◌, arith}
 use native.Mathlib.Nat.{sub-zero}
 use Rattle.std.proofs.lemmas.List.{length-take-le}
 use Rattle.exploring.specs.Meaning.{size_of}
-use Rattle.exploring.specs.declared.state.Told.TheVariants.{Set}
 use Rattle.crossing.specs.Meaning.{to_come}
-use Rattle.listing.specs.Text.{Puts, line}
-use Rattle.listing.specs.Listing.{set_line, sets_lines, most_steps}
+use Rattle.listing.specs.Text.{line}
+use Rattle.listing.specs.Listing.{set_line, sets_lines}
 use Rattle.listing.proofs.Written.{puts_none, puts_last, puts_stop, puts_on}
 use Rattle.listing.proofs.Lines.{lines-spent, lines-finished, lines-set}
 use Rattle.listing.proofs.questions.put_sets.Goals as goal

@@ -1,5 +1,5 @@
 use Rattle.std.proofs.Common.{[], ◌∷◌, decimal}
-use Rattle.listing.proofs.Written.{puts_then, puts_short}
+use Rattle.listing.proofs.Written.{puts_then}
 use Rattle.listing.proofs.text.put_field.Goals as goal
 
 pub returns : goal.returns

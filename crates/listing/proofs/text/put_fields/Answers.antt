@@ -1,4 +1,4 @@
-use Rattle.std.proofs.Common.{length, get_or, take, Some, refl, ap, subst, arith, take_all}
+use Rattle.std.proofs.Common.{get_or, Some, refl, subst, arith, take_all}
 use Rattle.std.specs.List.{flat_map}
 use Rattle.listing.specs.Text.{Puts, field}
 use Rattle.listing.proofs.Written.{puts_none, puts_field, puts_cut}

@@ -1,4 +1,4 @@
-use Rattle.std.proofs.Common.{[], ◌∷◌, ◌++◌, Some, None}
+use Rattle.std.proofs.Common.{[], ◌∷◌, ◌++◌, None}
 use Rattle.std.specs.List.{flat_map}
 use Rattle.listing.specs.Text.{field}
 use Rattle.listing.proofs.Written.{puts_then, puts_short}

@@ -1,6 +1,4 @@
 use Rattle.std.proofs.Common.{subst}
-use Rattle.roll.specs.Standing.{standing}
-use Rattle.roll.specs.Totals.{Few, Totals}
 use Rattle.question.specs.Beginning.{Begins}
 use Rattle.question.proofs.beginning.begin.Goals as goal
 

@@ -1,4 +1,4 @@
-use Rattle.std.proofs.Common.{◌-◌, ◌<◌, length, take, sym, subst, arith}
+use Rattle.std.proofs.Common.{◌<◌, length, take, sym, subst, arith}
 use Rattle.std.proofs.lemmas.List.{length-set}
 use Rattle.squeezing.proofs.Columns.{offset_fewer}
 use Rattle.squeezing.specs.Table.{Stands, entries}

@@ -1,4 +1,4 @@
-use Rattle.std.proofs.Common.{◌+◌, ◌-◌, take, drop, Ok, Err, refl, ap, ◌∙◌, arith}
+use Rattle.std.proofs.Common.{◌+◌, take, drop, Ok, Err, refl, ap, ◌∙◌, arith}
 use Rattle.records.proofs.Nexts.{body_short, body_misplaced, body_ok}
 use Rattle.records.proofs.reader.Reader.body.Goals as goal
 
