@@ -1,5 +1,5 @@
-// The listing of a roll file, as a call from C. Build the library with `rt staticlib listing` and link
-// target/staticlib/liblisting.a and, behind it, lib/librattle_c.a of the toolchain.
+// The listing of a roll file, as a call from C. `rt lib` in crates/listing_c builds the library, out/liblisting_c.a there, and
+// c/check puts a copy at target/staticlib/liblisting.a. Link it; nothing else is needed.
 #ifndef DEBITS_H
 #define DEBITS_H
 

@@ -43,7 +43,6 @@ pub record Entered (was : Roll) (e : Entry) (r : Result (Unit {0}) Refusal) (is 
   pub stands : standing is ≡ entered was.columns (room_of was) (standing was) e
   pub columns : is.columns ≡ was.columns
   pub room : room_of is ≡ room_of was
-  pub untouched : is_ok r ≡ false → is.cells.now ≡ was.cells.now
   pub sound : Sound was → Sound is
 
 -- striking the number n
@@ -52,7 +51,6 @@ pub record Struck (was : Roll) (n : ℕ) (r : Result (Unit {0}) Refusal) (is : R
   pub stands : standing is ≡ struck (standing was) n
   pub columns : is.columns ≡ was.columns
   pub room : room_of is ≡ room_of was
-  pub untouched : is_ok r ≡ false → is.cells.now ≡ was.cells.now
   pub sound : Sound was → Sound is
 
 -- beginning anew with d columns

@@ -207,7 +207,8 @@ impl<'a> Roll<'a> {
 
     // Enters an entry at the place that its number gives it.
     pub fn enter(&mut self, one: Entry) -> Result<(), Refusal>
-        ensures { Entered self.old one result self.new }
+        ensures is { Entered self.old one result self.new }
+        ensures untouched { is_ok result ≡ false → self.new.cells.now ≡ self.old.cells.now }
     {
         let n = self.held();
         let columns = self.columns;
@@ -222,7 +223,8 @@ impl<'a> Roll<'a> {
 
     // Strikes the entry with the number, and closes the gap.
     pub fn strike(&mut self, number: u32) -> Result<(), Refusal>
-        ensures { Struck self.old number result self.new }
+        ensures is { Struck self.old number result self.new }
+        ensures untouched { is_ok result ≡ false → self.new.cells.now ≡ self.old.cells.now }
     {
         let n = self.held();
         match strike_in(self.cells, n, number) {

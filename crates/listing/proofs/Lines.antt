@@ -12,7 +12,7 @@ use Rattle.exploring.specs.Meaning.{told_of, Ran}
 use Rattle.crossed.specs.declared.entries.Entry.{Entry}
 use Rattle.crossed.specs.Entries.{zero_entry}
 use Rattle.listing.specs.Text.{line}
-use Rattle.listing.specs.Listing.{numbers, set_line, sets_lines}
+use Rattle.listing.specs.Listing.{numbers, set_line, lines_within}
 
 -- one number more
 pub numbers_more : (xs : List Entry) (ps ns : List ℕ) (i p v : ℕ) → i < length ps → i < length ns → p ≡ get_or ps i 0 → v ≡ get_or (map (λ e. e.number) xs) (p - 1) 0 → take i ns ≡ numbers xs (take i ps) → take (i + 1) (set ns i v) ≡ numbers xs (take (i + 1) ps)
@@ -40,7 +40,7 @@ never a = grind (arith, nat_tests)
 
 -- the lines that follow an advance that ended so, with so many steps allowed
 abbrev follows : ℕ → List Entry → End → ℕ → Trace → List ℕ
-follows left xs (set-end ps) n rest = set_line xs ps ++ sets_lines (left - n) xs rest
+follows left xs (set-end ps) n rest = set_line xs ps ++ lines_within (left - n) xs rest
 follows left xs spent n rest = line 80 []
 follows left xs finished n rest = line 70 []
 
@@ -48,7 +48,7 @@ none_left : (left : ℕ) → somes (take left []) ≡ []
 none_left zero = refl
 none_left (suc left) = refl
 
-run-lines : (xs : List Entry) (t : Trace) (left k : ℕ) → sets_lines left xs t ≡ follows (left + k) xs (run t left k).end (run t left k).steps (run t left k).rest
+run-lines : (xs : List Entry) (t : Trace) (left k : ℕ) → lines_within left xs t ≡ follows (left + k) xs (run t left k).end (run t left k).steps (run t left k).rest
 run-lines xs [] left k = ap₂ (λ s b. flat_map (set_line xs) s ++ line (cond b 70 80) []) (none_left left) (le-leb 0 left (omega arith))
 run-lines xs (None ∷ t) zero k = ap (λ b. line (cond b 70 80) []) (never (length t))
 run-lines xs (Some ps ∷ t) zero k = ap (λ b. line (cond b 70 80) []) (never (length t))
@@ -61,9 +61,9 @@ run-lines xs (Some ps ∷ t) (suc left) k =
     let on : left ≡ suc left + k - (k + 1) = omega arith in
     append_assoc (set_line xs ps) (flat_map (set_line xs) (somes (take left t))) (line (cond (leb (suc (length t)) (suc left)) 70 80) [])
     ∙ ap (λ b. set_line xs ps ++ (flat_map (set_line xs) (somes (take left t)) ++ line (cond b 70 80) [])) (shift (length t) left)
-    ∙ ap (λ q. set_line xs ps ++ sets_lines q xs t) on
+    ∙ ap (λ q. set_line xs ps ++ lines_within q xs t) on
 
-ran_lines : (xs : List Entry) (t : Trace) (left : ℕ) → sets_lines left xs t ≡ follows left xs (run t left 0).end (run t left 0).steps (run t left 0).rest
+ran_lines : (xs : List Entry) (t : Trace) (left : ℕ) → lines_within left xs t ≡ follows left xs (run t left 0).end (run t left 0).steps (run t left 0).rest
 ran_lines xs t left = run-lines xs t left 0 ∙ ap (λ q. follows q xs (run t left 0).end (run t left 0).steps (run t left 0).rest) (add-zero left)
 
 -- what holds of each set holds of the one that is handed out and of those to come
@@ -81,7 +81,7 @@ run_holds P (Some ps ∷ t) (suc left) k h = h
 
 -- what an advance tells of the lines that are left
 module _ (xs : List Entry) (t : Trace) (left : ℕ) (a : Answer) (page page' : List ℕ) (rest : Trace) (ran : Ran (run t left 0) a page page' rest) where
-  pub lines-spent : a.told ≡ Spent → sets_lines left xs t ≡ line 80 []
+  pub lines-spent : a.told ≡ Spent → lines_within left xs t ≡ line 80 []
   lines-spent h = ran_lines xs t left ∙ go (run t left 0).end (sym ran.told ∙ h)
     where
       go : (e : End) → told_of e ≡ Spent → follows left xs e (run t left 0).steps (run t left 0).rest ≡ line 80 []
@@ -89,7 +89,7 @@ module _ (xs : List Entry) (t : Trace) (left : ℕ) (a : Answer) (page page' : L
       go spent q = refl
       go finished q = let z : ◌≡◌ {A = ℕ} 0 1 = cc in absurd (omega arith)
 
-  pub lines-finished : a.told ≡ Finished → sets_lines left xs t ≡ line 70 []
+  pub lines-finished : a.told ≡ Finished → lines_within left xs t ≡ line 70 []
   lines-finished h = ran_lines xs t left ∙ go (run t left 0).end (sym ran.told ∙ h)
     where
       go : (e : End) → told_of e ≡ Finished → follows left xs e (run t left 0).steps (run t left 0).rest ≡ line 70 []
@@ -98,13 +98,13 @@ module _ (xs : List Entry) (t : Trace) (left : ℕ) (a : Answer) (page page' : L
       go finished q = refl
 
   -- a set of so many places stands at the front of the page
-  pub lines-set : (size : ℕ) → a.told ≡ Set → AllByRecursion (λ s. length s ≡ size) (somes t) → (sets_lines left xs t ≡ set_line xs (take size page') ++ sets_lines (left - a.steps) xs rest) × AllByRecursion (λ s. length s ≡ size) (somes rest)
+  pub lines-set : (size : ℕ) → a.told ≡ Set → AllByRecursion (λ s. length s ≡ size) (somes t) → (lines_within left xs t ≡ set_line xs (take size page') ++ lines_within (left - a.steps) xs rest) × AllByRecursion (λ s. length s ≡ size) (somes rest)
   lines-set size h sized = go (run t left 0).end (sym ran.told ∙ h) (ran_lines xs t left) ran.page_is (run_holds (λ s. length s ≡ size) t left 0 sized)
     where
-      go : (e : End) → told_of e ≡ Set → sets_lines left xs t ≡ follows left xs e (run t left 0).steps (run t left 0).rest → page' ≡ page_of e page → HoldsOn (λ s. length s ≡ size) e (run t left 0).rest → (sets_lines left xs t ≡ set_line xs (take size page') ++ sets_lines (left - a.steps) xs rest) × AllByRecursion (λ s. length s ≡ size) (somes rest)
+      go : (e : End) → told_of e ≡ Set → lines_within left xs t ≡ follows left xs e (run t left 0).steps (run t left 0).rest → page' ≡ page_of e page → HoldsOn (λ s. length s ≡ size) e (run t left 0).rest → (lines_within left xs t ≡ set_line xs (take size page') ++ lines_within (left - a.steps) xs rest) × AllByRecursion (λ s. length s ≡ size) (somes rest)
       go (set-end ps) q l p s =
           let front : take size page' ≡ ps = ap (take size) p ∙ take_at ps (drop (length ps) page) size s.0 in (
-            l ∙ ap (λ r. set_line xs ps ++ sets_lines (left - (run t left 0).steps) xs r) (sym ran.rest) ∙ ap₂ (λ f n. set_line xs f ++ sets_lines (left - n) xs rest) (sym front) (sym ran.steps),
+            l ∙ ap (λ r. set_line xs ps ++ lines_within (left - (run t left 0).steps) xs r) (sym ran.rest) ∙ ap₂ (λ f n. set_line xs f ++ lines_within (left - n) xs rest) (sym front) (sym ran.steps),
             subst (λ r. AllByRecursion (λ s. length s ≡ size) (somes r)) (sym ran.rest) s.1,
           )
       go spent q l p s = let z : ◌≡◌ {A = ℕ} 0 1 = cc in absurd (omega arith)

@@ -69,6 +69,15 @@ pub puts_writes : (out o : List ℕ) (at : ℕ) (bs : List ℕ) (r : Option ℕ)
 puts_writes out o at bs None p = tt
 puts_writes out o at bs (Some n) p = (bs, p)
 
+-- no text
+pub writes_none : (out : List ℕ) (at : ℕ) → at ≤ length out → Writes out at (Some at) out
+writes_none out at h = ([], puts_none out at h)
+
+-- some text, then more
+pub writes_then : (out o o' : List ℕ) (at n : ℕ) (r : Option ℕ) → Writes out at (Some n) o → Writes o n r o' → Writes out at r o'
+writes_then out o o' at n None p q = tt
+writes_then out o o' at n (Some k) p q = (p.0 ++ q.0, puts_then out o o' at n p.0 q.0 (Some k) p.1 q.1)
+
 -- a whole text that fits, and one that does not
 pub fits_whole : (out after text : List ℕ) (n : ℕ) → Puts out 0 text (Some n) after → (Ok n ≡ written out text) × (after ≡ output_after out text)
 fits_whole out after text n p =

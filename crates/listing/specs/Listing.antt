@@ -7,7 +7,7 @@ use Rattle.sets.specs.Trace.{Trace, somes}
 use Rattle.roll.specs.Refusals.{number_of}
 use Rattle.roll.specs.declared.refusal.Refusal.{Refusal}
 use Rattle.crossing.specs.Asking.{asking}
-use Rattle.crossing.specs.Ranks.{row_of, rows_of}
+use Rattle.crossing.specs.Ranks.{row_of}
 use Rattle.crossed.specs.Books.{if_ok}
 use Rattle.crossed.specs.declared.asked.Question.{Question}
 use Rattle.crossed.specs.declared.entries.Columns.{Columns}
@@ -23,7 +23,7 @@ use Rattle.listing.specs.Text.{line}
 
 -- what the Search of a question has to come where xs stand
 abbrev pub coming : List Entry → Question → Trace
-coming xs q = crossed 3 (rows_of xs) (row_of q.low) (row_of q.high) q.size
+coming xs q = crossed 3 (map (λ e. row_of e.amounts) xs) (row_of q.low) (row_of q.high) q.size
 
 -- the numbers of the entries at the places of a set
 abbrev pub numbers : List Entry → List ℕ → List ℕ
@@ -38,12 +38,16 @@ abbrev pub set_line : List Entry → List ℕ → List ℕ
 set_line xs ps = line 83 (numbers xs ps)
 
 -- a line for each set found within so many steps, then `F` if no space is left, or `P` if the steps are spent
-abbrev pub sets_lines : ℕ → List Entry → Trace → List ℕ
-sets_lines steps xs t = flat_map (set_line xs) (somes (take steps t)) ++ line (cond (nat_le (length t) steps) 70 80) []
+abbrev pub lines_within : ℕ → List Entry → Trace → List ℕ
+lines_within steps xs t = flat_map (set_line xs) (somes (take steps t)) ++ line (cond (nat_le (length t) steps) 70 80) []
+
+-- a line for each set found within the steps of a question, then `F` if no space is left, or `P` if the steps are spent
+abbrev pub sets_lines : List Entry → Trace → List ℕ
+sets_lines xs t = flat_map (λ s. line 83 (numbers xs s)) (somes (take most_steps t)) ++ line (cond (nat_le (length t) most_steps) 70 80) []
 
 -- `Q`, the ordinal and the size, then the lines of its sets
 abbrev pub question_lines : ℕ → List Entry → Question → List ℕ
-question_lines k xs q = line 81 (k ∷ q.size ∷ []) ++ sets_lines most_steps xs (coming xs q)
+question_lines k xs q = line 81 (k ∷ q.size ∷ []) ++ sets_lines xs (coming xs q)
 
 -- what a record makes of what stands, with the test of a question and a table of so many values
 abbrev pub tried : Columns → ℕ → ℕ → List Entry → Rec → Result (List Entry) Refusal
@@ -102,7 +106,7 @@ lines_of room table file = then (opened file) (λ d. lines d room table (drop 2 
 
 -- the listing of a file
 abbrev pub listing : ℕ → ℕ → List ℕ → List ℕ
-listing room table file = listed (lines_of room table file)
+listing room table file = listed (then (opened file) (λ d. lines d room table (drop 2 file) [] 0 0 2))
 
 -- whether there is a fault
 abbrev pub fault_in : Result (List ℕ) Fault → Result (Unit {0}) Fault

@@ -97,7 +97,8 @@ fn put_on(
     table: &mut [Ranked],
 ) -> Option<usize>
     requires { Behind reader.old }
-    ensures { (text : List ℕ) → Sound roll.old → lines roll.old.columns (room_of roll.old) (length table.old) (drop reader.old.place reader.old.bytes.now) (standing roll.old) 0 0 reader.old.place ≡ Ok text → Puts out.old 0 text result out.new }
+    ensures lines { (text : List ℕ) → Sound roll.old → lines roll.old.columns (room_of roll.old) (length table.old) (drop reader.old.place reader.old.bytes.now) (standing roll.old) 0 0 reader.old.place ≡ Ok text → Puts out.old 0 text result out.new }
+    ensures writes { Writes out.old 0 result out.new }
 {
     let mut at = 0;
     let mut ordinal = 0usize;
@@ -128,7 +129,8 @@ fn put_questions(
     cells: &mut [Entry],
     table: &mut [Ranked],
 ) -> Option<usize>
-    ensures { (text : List ℕ) → lines_of (length cells.old) (length table.old) file.now ≡ Ok text → Puts out.old 0 text result out.new }
+    ensures lines { (text : List ℕ) → lines_of (length cells.old) (length table.old) file.now ≡ Ok text → Puts out.old 0 text result out.new }
+    ensures writes { Writes out.old 0 result out.new }
 {
     match heading(file) {
         Err(_) => None,

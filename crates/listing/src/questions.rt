@@ -6,8 +6,8 @@ ghost use Rattle.exploring.specs.Meaning.{size_of};
 ghost use Rattle.crossed.specs.Rolls.{standing, Sound};
 ghost use Rattle.crossing.specs.Asking.{asking};
 ghost use Rattle.crossing.specs.Meaning.{Keeps, to_come};
-ghost use Rattle.listing.specs.Text.{Puts};
-ghost use Rattle.listing.specs.Listing.{numbers as numbersAt, set_line, sets_lines, most_steps, question_lines};
+ghost use Rattle.listing.specs.Text.{Puts, Writes};
+ghost use Rattle.listing.specs.Listing.{numbers as numbers_at, set_line, sets_lines, question_lines};
 
 use crate::text::put_line;
 use crossed::asked::Question;
@@ -35,7 +35,7 @@ fn number_at(entries: &[Entry], place: u16) -> usize
 // Puts the numbers of the entries at the places in front of `numbers`, and tells how many.
 fn numbers_of(entries: &[Entry], places: &[u16], numbers: &mut [usize]) -> usize
     ensures count { result ≡ min (length places.now) (length numbers.old) }
-    ensures are { take result numbers.new ≡ numbersAt entries.now (take result places.now) }
+    ensures are { take result numbers.new ≡ numbers_at entries.now (take result places.now) }
 {
     let count = places.len().min(numbers.len());
     for i in 0..count {
@@ -46,8 +46,8 @@ fn numbers_of(entries: &[Entry], places: &[u16], numbers: &mut [usize]) -> usize
 
 // A line for a set: the numbers of its entries.
 fn put_set(out: &mut [u8], at: usize, entries: &[Entry], places: &[u16]) -> Option<usize>
-    requires { length places.now ≤ 120 }
-    ensures { Puts out.old at (set_line entries.now places.now) result out.new }
+    ensures line { length places.now ≤ 120 → Puts out.old at (set_line entries.now places.now) result out.new }
+    ensures writes { Writes out.old at result out.new }
 {
     let mut numbers = [0usize; 120];
     let count = numbers_of(entries, places, &mut numbers);
@@ -57,7 +57,8 @@ fn put_set(out: &mut [u8], at: usize, entries: &[Entry], places: &[u16]) -> Opti
 // A line for each set that the Search hands out within its steps, and one that says how it ended.
 fn put_sets(out: &mut [u8], at: usize, entries: &[Entry], state: &mut Search) -> Option<usize>
     requires { at ≤ length out.old }
-    ensures { Keeps state.old → AllByRecursion (λ s. length s ≡ size_of state.old.straight) (somes (to_come state.old)) → Puts out.old at (sets_lines most_steps entries.now (to_come state.old)) result out.new }
+    ensures lines { Keeps state.old → AllByRecursion (λ s. length s ≡ size_of state.old.straight) (somes (to_come state.old)) → Puts out.old at (sets_lines entries.now (to_come state.old)) result out.new }
+    ensures writes { Writes out.old at result out.new }
 {
     let mut page = [0u16; 120];
     let size = state.places();
@@ -88,8 +89,8 @@ pub(crate) fn put_question(
     asked: Question,
     table: &mut [Ranked],
 ) -> Option<usize>
-    requires { asking roll.now.columns (length (standing roll.now)) asked (length table.old) ≡ Ok tt }
-    ensures { Sound roll.now → Puts out.old at (question_lines ordinal (standing roll.now) asked) result out.new }
+    ensures lines { asking roll.now.columns (length (standing roll.now)) asked (length table.old) ≡ Ok tt → Sound roll.now → Puts out.old at (question_lines ordinal (standing roll.now) asked) result out.new }
+    ensures writes { Writes out.old at result out.new }
 {
     let Some(next) = put_line(out, at, b'Q', &[ordinal, asked.size]) else {
         return None;

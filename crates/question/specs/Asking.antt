@@ -55,9 +55,9 @@ abbrev pub total_of_all : Algebra → List Row → Row
 total_of_all a rs = total a rs (range_with_len 1 (length rs))
 
 -- the low end of the sought band where the rows rs stand
-abbrev pub sought_low : {M : Type 0} → Algebra → (M → Row) → List Row → Question M → Row
-sought_low a row rs q = end a q.side (total_of_all a rs) (row q.low) (row q.high)
+abbrev pub searched_low : {M : Type 0} → Algebra → (M → Row) → List Row → Question M → Row
+searched_low a row rs q = end a q.side (total_of_all a rs) (row q.low) (row q.high)
 
 -- and the high end
-abbrev pub sought_high : {M : Type 0} → Algebra → (M → Row) → List Row → Question M → Row
-sought_high a row rs q = end a q.side (total_of_all a rs) (row q.high) (row q.low)
+abbrev pub searched_high : {M : Type 0} → Algebra → (M → Row) → List Row → Question M → Row
+searched_high a row rs q = end a q.side (total_of_all a rs) (row q.high) (row q.low)

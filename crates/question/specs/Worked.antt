@@ -9,7 +9,7 @@ use Rattle.sets.specs.Trace.{Trace, trace, somes}
 use Rattle.roll.specs.Standing.{entering}
 use Rattle.roll.specs.Order.{Kind}
 use Rattle.roll.specs.declared.refusal.Refusal.TheVariants.{Incomparable, ShortTable}
-use Rattle.question.specs.Asking.{sought, asking, sought_low, sought_high}
+use Rattle.question.specs.Asking.{sought, asking, searched_low, searched_high}
 use Rattle.question.specs.declared.asking.Side.{Side}
 use Rattle.question.specs.declared.asking.Side.TheVariants.{Paid, Left}
 use Rattle.question.specs.declared.asking.Question.{Question}
@@ -27,8 +27,8 @@ asks side l low high = record { side = side; size = l; low = low; high = high }
 -- a question to a straight roll whose rows stand in this order
 abbrev straight : Algebra → List Row → Question Row → List (List ℕ) → Option ℕ → Example
 straight a rs q found steps =
-    let low : Row = sought_low a (λ x. x) rs q in
-    let high : Row = sought_high a (λ x. x) rs q in
+    let low : Row = searched_low a (λ x. x) rs q in
+    let high : Row = searched_high a (λ x. x) rs q in
     let m : ℕ = sought q.side (length rs) q.size in
     record { comes = trace a rs low high m; solved = solutions a rs m low high; sets = found; steps = steps }
 

@@ -41,7 +41,7 @@ fn band_fits<M: Measure>(low: M, high: M) -> bool
 }
 
 // How many places the sought sets have.
-pub(crate) fn sought_size(side: Side, n: usize, size: usize) -> usize
+pub(crate) fn searched_size(side: Side, n: usize, size: usize) -> usize
     ensures { result ≡ sought side n size }
 {
     match side {
@@ -82,7 +82,7 @@ pub(crate) fn judge<M: Measure>(
     if !band_fits(asked.low, asked.high) {
         return Err(Refusal::BadBand);
     }
-    if !table_fits(n, sought_size(asked.side, n, asked.size), room) {
+    if !table_fits(n, searched_size(asked.side, n, asked.size), room) {
         return Err(Refusal::ShortTable);
     }
     Ok(())
@@ -90,7 +90,7 @@ pub(crate) fn judge<M: Measure>(
 
 // An end of the sought band, where all entries come to `all`: from the end of the asked band that it stands for, and the
 // other one.
-pub(crate) fn sought_end<M: Measure>(side: Side, all: M, this: M, other: M) -> M
+pub(crate) fn searched_end<M: Measure>(side: Side, all: M, this: M, other: M) -> M
     ensures { Needed side (M.span all + M.span other ≤ 240) → M.Measure.row result ≡ end M.algebra side (M.Measure.row all) (M.Measure.row this) (M.Measure.row other) }
 {
     match side {

@@ -4,7 +4,7 @@ ghost use Rattle.roll.specs.Standing.{standing};
 ghost use Rattle.question.specs.Asking.{asking};
 ghost use Rattle.question.specs.Beginning.{Starts, Stays, Begins, Answers};
 
-use crate::asking::{Question, judge, sought_end, sought_size};
+use crate::asking::{Question, judge, searched_end, searched_size};
 use crate::filling::write_table;
 use exploring::starting::over;
 use exploring::state::Search;
@@ -30,9 +30,9 @@ fn begin_accepted<'t, M: Measure>(
     ensures { Starts M.algebra M.Measure.row M.span entries.now all asked table.old result }
 {
     write_table(entries, all, asked, table);
-    let m = sought_size(asked.side, entries.len(), asked.size);
-    let low = sought_end(asked.side, all, asked.low, asked.high);
-    let high = sought_end(asked.side, all, asked.high, asked.low);
+    let m = searched_size(asked.side, entries.len(), asked.size);
+    let low = searched_end(asked.side, all, asked.low, asked.high);
+    let high = searched_end(asked.side, all, asked.high, asked.low);
     over(table, entries.len(), m, low, high)
 }
 

@@ -5,7 +5,7 @@ ghost use Rattle.squeezing.specs.Table.{Holds, offset};
 ghost use Rattle.question.specs.Asking.{asking};
 ghost use Rattle.question.specs.Filling.{values, Laid, Written};
 
-use crate::asking::{Question, sought_end, sought_size};
+use crate::asking::{Question, searched_end, searched_size};
 use measure::Measure;
 use roll::straight::Entry;
 
@@ -78,9 +78,9 @@ pub(crate) fn write_table<M: Measure>(
     requires { asking M.algebra M.Measure.row M.span (length entries.now) asked (length table.old) ≡ Ok tt }
     ensures { Written M.algebra M.Measure.row M.span entries.now all asked table.old table.new }
 {
-    let m = sought_size(asked.side, entries.len(), asked.size);
+    let m = searched_size(asked.side, entries.len(), asked.size);
     let at = fill(entries, m, table);
-    let low = sought_end(asked.side, all, asked.low, asked.high);
-    let high = sought_end(asked.side, all, asked.high, asked.low);
+    let low = searched_end(asked.side, all, asked.low, asked.high);
+    let high = searched_end(asked.side, all, asked.high, asked.low);
     put_ends(table, at, low, high);
 }

@@ -23,8 +23,8 @@ returns-in-Ok c =
     let has = has_lines res c.in-Ok.ensures in
     let cells = c.faults_in.auto.cells in
     let again : lines_of (length c.faults_in.new.cells) (length c.args.table.now) c.args.file.now ≡ _ = ap (λ n. lines_of n (length c.args.table.now) c.args.file.now) cells ∙ has.1 in
-    let puts = c.put_questions.ensures has.0 again in
+    let puts = c.put_questions.ensures.lines has.0 again in
     record {
       text = subst (λ l. Puts c.args.out.now 0 l c.put_questions.result c.put_questions.new.out) (ap listed (sym has.1)) puts;
-      writes = puts_writes c.args.out.now c.put_questions.new.out 0 has.0 c.put_questions.result puts;
+      writes = c.put_questions.ensures.writes;
     }

@@ -8,8 +8,8 @@ returns g c =
     let m = g.M.Measure in
     let xs = c.args.entries.now in
     let is = c.write_table.new.table in
-    let low = c.sought_end-low.result in
-    let high = c.sought_end-high.result in
+    let low = c.searched_end-low.result in
+    let high = c.searched_end-high.result in
     let s = c.over.result in
-    let begun = subst (λ k. Begun m.algebra m.row m.span (length xs) k is low high s) c.sought_size-m.ensures c.over.ensures in
-    starts m.algebra m.row m.span xs c.args.all c.args.asked c.args.table.now is s low high c.requires c.write_table.auto.table c.write_table.ensures c.sought_end-low.ensures c.sought_end-high.ensures begun
+    let begun = subst (λ k. Begun m.algebra m.row m.span (length xs) k is low high s) c.searched_size-m.ensures c.over.ensures in
+    starts m.algebra m.row m.span xs c.args.all c.args.asked c.args.table.now is s low high c.requires c.write_table.auto.table c.write_table.ensures c.searched_end-low.ensures c.searched_end-high.ensures begun

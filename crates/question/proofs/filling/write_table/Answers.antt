@@ -11,7 +11,7 @@ fill-at-requires g c =
     let n = length c.args.entries.now in
     let q = c.args.asked in
     let ok = accepted m.algebra m.row m.span n q (length c.args.table.now) c.requires in
-    let m_is = c.sought_size-m.ensures in
+    let m_is = c.searched_size-m.ensures in
     record {
       some = omega (arith, m_is, ok.some);
       most = omega (arith, m_is, ok.most);
@@ -24,7 +24,7 @@ put_ends-requires g c =
     let n = length c.args.entries.now in
     let q = c.args.asked in
     let ok = accepted m.algebra m.row m.span n q (length c.args.table.now) c.requires in
-    let at_is : c.fill-at.result ≡ ends_at n q = c.fill-at.ensures.past ∙ ap (offset n) c.sought_size-m.ensures in
+    let at_is : c.fill-at.result ≡ ends_at n q = c.fill-at.ensures.past ∙ ap (offset n) c.searched_size-m.ensures in
     omega (arith, at_is, ends_fit m.span n q (length c.args.table.now) ok, c.fill-at.auto.table)
 
 pub returns : goal.returns
@@ -35,11 +35,11 @@ returns g c =
     let q = c.args.asked in
     let was = c.args.table.now in
     let filled = c.fill-at.new.table in
-    let m_is = c.sought_size-m.ensures in
+    let m_is = c.searched_size-m.ensures in
     let at_is : c.fill-at.result ≡ ends_at n q = c.fill-at.ensures.past ∙ ap (offset n) m_is in
     let ok = accepted m.algebra m.row m.span n q (length was) c.requires in
     subst (λ t. Written m.algebra m.row m.span xs c.args.all q was t) (sym c.put_ends.ensures)
-    (written m.algebra m.row m.span xs c.args.all q was filled c.fill-at.result c.sought_end-low.result c.sought_end-high.result
+    (written m.algebra m.row m.span xs c.args.all q was filled c.fill-at.result c.searched_end-low.result c.searched_end-high.result
     ok at_is c.fill-at.auto.table c.fill-at.ensures.first
     (λ few. subst (λ k. Holds m.algebra m.row m.span n k filled) m_is (c.fill-at.ensures.held few))
-    c.fill-at.ensures.kept c.sought_end-low.ensures c.sought_end-high.ensures)
+    c.fill-at.ensures.kept c.searched_end-low.ensures c.searched_end-high.ensures)

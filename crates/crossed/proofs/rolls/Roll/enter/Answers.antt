@@ -19,11 +19,13 @@ returns-in-Ok c =
     let few : min 120 m ≡ m = omega (arith, c.in-Ok.ensures.most c.held-n.ensures.most) in
     let left : take (min 120 m) c.enter_in.new.cells ≡ entered r.columns (length cells) xs e = ap (λ i. take i c.enter_in.new.cells) few ∙ ok.1 ∙ ap (λ q. cond (is_ok q) (put e xs) xs) ok.0 in
     record {
-      answer = ok.0;
-      stands = left;
-      sound = λ was. subst (Reachable r.columns) (sym left) (by_enter (length cells) e fit was);
-      columns = refl;
-      room = c.enter_in.auto.cells;
+      is = record {
+        answer = ok.0;
+        stands = left;
+        sound = λ was. subst (Reachable r.columns) (sym left) (by_enter (length cells) e fit was);
+        columns = refl;
+        room = c.enter_in.auto.cells;
+      };
       untouched = λ q. absurd (true≢false q);
     }
 
@@ -38,10 +40,12 @@ returns-in-Err c =
     let same = c.in-Err.ensures.untouched refl in
     let stays : take (min 120 r.count) c.enter_in.new.cells ≡ xs = ap (take (min 120 r.count)) same in
     record {
-      answer = no;
-      stands = stays ∙ ap (λ q. cond (is_ok q) (put e xs) xs) no;
-      sound = λ was. subst (Reachable r.columns) (sym stays) was;
-      columns = refl;
-      room = ap length same;
+      is = record {
+        answer = no;
+        stands = stays ∙ ap (λ q. cond (is_ok q) (put e xs) xs) no;
+        sound = λ was. subst (Reachable r.columns) (sym stays) was;
+        columns = refl;
+        room = ap length same;
+      };
       untouched = λ q. same;
     }

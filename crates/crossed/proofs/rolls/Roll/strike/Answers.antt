@@ -18,11 +18,13 @@ returns-in-Ok c =
     let few : min 120 m ≡ m = omega (arith, c.in-Ok.ensures.most, c.held-n.ensures.most) in
     let left : take (min 120 m) c.strike_in.new.cells ≡ struck xs e = ap (λ i. take i c.strike_in.new.cells) few ∙ ok.1 ∙ ap (λ q. cond (is_ok q) (without e xs) xs) ok.0 in
     record {
-      answer = ok.0;
-      stands = left;
-      sound = λ was. subst (Reachable r.columns) (sym left) (by_strike e was);
-      columns = refl;
-      room = c.strike_in.auto.cells;
+      is = record {
+        answer = ok.0;
+        stands = left;
+        sound = λ was. subst (Reachable r.columns) (sym left) (by_strike e was);
+        columns = refl;
+        room = c.strike_in.auto.cells;
+      };
       untouched = λ q. absurd (true≢false q);
     }
 
@@ -37,10 +39,12 @@ returns-in-Err c =
     let same = c.in-Err.ensures.untouched refl in
     let stays : take (min 120 r.count) c.strike_in.new.cells ≡ xs = ap (take (min 120 r.count)) same in
     record {
-      answer = no;
-      stands = stays ∙ ap (λ q. cond (is_ok q) (without e xs) xs) no;
-      sound = λ was. subst (Reachable r.columns) (sym stays) was;
-      columns = refl;
-      room = ap length same;
+      is = record {
+        answer = no;
+        stands = stays ∙ ap (λ q. cond (is_ok q) (without e xs) xs) no;
+        sound = λ was. subst (Reachable r.columns) (sym stays) was;
+        columns = refl;
+        room = ap length same;
+      };
       untouched = λ q. same;
     }
