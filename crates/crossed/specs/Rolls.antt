@@ -1,5 +1,5 @@
 -- What stands on a roll, and what each call makes of the roll.
-use Rattle.std.specs.Prelude.{◌≡◌, ℕ, min, false, List, [], length, take, replicate, is_ok, Ok, Err, Result}
+use Rattle.std.specs.Prelude.{◌≡◌, ℕ, min, List, [], length, take, replicate, Ok, Err, Result}
 use Rattle.roll.specs.declared.refusal.Refusal.{Refusal}
 use Rattle.crossed.specs.declared.entries.Entry.{Entry}
 use Rattle.crossed.specs.declared.entries.Columns.{Columns}
