@@ -5,7 +5,7 @@ use Rattle.std.proofs.lemmas.List.{append_assoc, take_more, take-set-le, get_or-
 use Rattle.std.proofs.lemmas.Bool.{le-leb}
 use Rattle.std.proofs.lemmas.Bool.Decides.{nat_tests}
 use Rattle.sets.specs.Trace.{Trace, somes}
-use Rattle.sets.specs.Advance.{End, set as set-end, spent, finished, run, page_of}
+use Rattle.sets.specs.Advance.{End, set as set_end, spent, finished, run, page_of}
 use Rattle.exploring.specs.declared.state.Answer.{Answer}
 use Rattle.exploring.specs.declared.state.Told.TheVariants.{Set, Spent, Finished}
 use Rattle.exploring.specs.Meaning.{told_of, Ran}
@@ -40,7 +40,7 @@ never a = grind (arith, nat_tests)
 
 -- the lines that follow an advance that ended so, with so many steps allowed
 abbrev follows : ℕ → List Entry → End → ℕ → Trace → List ℕ
-follows left xs (set-end ps) n rest = set_line xs ps ++ lines_within (left - n) xs rest
+follows left xs (set_end ps) n rest = set_line xs ps ++ lines_within (left - n) xs rest
 follows left xs spent n rest = line 80 []
 follows left xs finished n rest = line 70 []
 
@@ -68,7 +68,7 @@ ran_lines xs t left = run-lines xs t left 0 ∙ ap (λ q. follows q xs (run t le
 
 -- what holds of each set holds of the one that is handed out and of those to come
 abbrev HoldsOn : (List ℕ → Type 0) → End → Trace → Type 0
-HoldsOn P (set-end ps) rest = P ps × AllByRecursion P (somes rest)
+HoldsOn P (set_end ps) rest = P ps × AllByRecursion P (somes rest)
 HoldsOn P spent rest = Unit {0}
 HoldsOn P finished rest = Unit {0}
 
@@ -85,7 +85,7 @@ module _ (xs : List Entry) (t : Trace) (left : ℕ) (a : Answer) (page page' : L
   lines-spent h = ran_lines xs t left ∙ go (run t left 0).end (sym ran.told ∙ h)
     where
       go : (e : End) → told_of e ≡ Spent → follows left xs e (run t left 0).steps (run t left 0).rest ≡ line 80 []
-      go (set-end ps) q = let z : ◌≡◌ {A = ℕ} 0 1 = cc in absurd (omega arith)
+      go (set_end ps) q = let z : ◌≡◌ {A = ℕ} 0 1 = cc in absurd (omega arith)
       go spent q = refl
       go finished q = let z : ◌≡◌ {A = ℕ} 0 1 = cc in absurd (omega arith)
 
@@ -93,7 +93,7 @@ module _ (xs : List Entry) (t : Trace) (left : ℕ) (a : Answer) (page page' : L
   lines-finished h = ran_lines xs t left ∙ go (run t left 0).end (sym ran.told ∙ h)
     where
       go : (e : End) → told_of e ≡ Finished → follows left xs e (run t left 0).steps (run t left 0).rest ≡ line 70 []
-      go (set-end ps) q = let z : ◌≡◌ {A = ℕ} 0 1 = cc in absurd (omega arith)
+      go (set_end ps) q = let z : ◌≡◌ {A = ℕ} 0 1 = cc in absurd (omega arith)
       go spent q = let z : ◌≡◌ {A = ℕ} 0 1 = cc in absurd (omega arith)
       go finished q = refl
 
@@ -102,7 +102,7 @@ module _ (xs : List Entry) (t : Trace) (left : ℕ) (a : Answer) (page page' : L
   lines-set size h sized = go (run t left 0).end (sym ran.told ∙ h) (ran_lines xs t left) ran.page_is (run_holds (λ s. length s ≡ size) t left 0 sized)
     where
       go : (e : End) → told_of e ≡ Set → lines_within left xs t ≡ follows left xs e (run t left 0).steps (run t left 0).rest → page' ≡ page_of e page → HoldsOn (λ s. length s ≡ size) e (run t left 0).rest → (lines_within left xs t ≡ set_line xs (take size page') ++ lines_within (left - a.steps) xs rest) × AllByRecursion (λ s. length s ≡ size) (somes rest)
-      go (set-end ps) q l p s =
+      go (set_end ps) q l p s =
           let front : take size page' ≡ ps = ap (take size) p ∙ take_at ps (drop (length ps) page) size s.0 in (
             l ∙ ap (λ r. set_line xs ps ++ lines_within (left - (run t left 0).steps) xs r) (sym ran.rest) ∙ ap₂ (λ f n. set_line xs f ++ lines_within (left - n) xs rest) (sym front) (sym ran.steps),
             subst (λ r. AllByRecursion (λ s. length s ≡ size) (somes r)) (sym ran.rest) s.1,
