@@ -20,7 +20,8 @@ use Rattle.question.specs.declared.asking.Question.{Question as Asked}
 use Rattle.question.specs.declared.asking.Side.TheVariants.{Paid}
 use Rattle.question.specs.Asking as Plain
 use Rattle.question.specs.Asking.{band_fits, table_size}
-use Rattle.question.specs.Beginning.{Begins, BeginsBy, Starts as Starts-straight}
+use Rattle.question.specs.Filling.{EndsAsAsked}
+use Rattle.question.specs.Beginning.{Begins, BeginsBy, Starts as StartsStraight}
 use Rattle.crossed.specs.declared.asked.Question.{Question}
 use Rattle.crossed.specs.declared.entries.Amounts.{Amounts}
 use Rattle.crossed.specs.declared.entries.Entry.{Entry}
@@ -64,19 +65,20 @@ accepted n room q low high f e g =
     ∙ cond-true _ _ _ (band-fits low high q.low q.high f.band e g)
     ∙ cond-true _ _ _ (le-leb (table_size n q.size) room f.table)
 
-pub shadowed_over : (α : Row) (xs : List Entry) (ys : List (Shadow Rank)) (q : Question) (low high all : Rank) (was : List Rank) (s : Straight Rank) → Fits (length xs) q (length was) → length ys ≡ length xs → Casts α xs ys → rank_row low ≡ pos 0 ∷ row_of q.low → rank_row high ≡ pos 0 ∷ row_of q.high → Begins ranks rank_row rank_span ys all (paid q low high) was s → Shadowed α xs q was s
-shadowed_over α xs ys q low high all was s f long casts e g begins =
+pub shadowed_over : (α : Row) (xs : List Entry) (ys : List (Shadow Rank)) (q : Question) (low high all : Rank) (was : List Rank) (s : Straight Rank) → Fits (length xs) q (length was) → length ys ≡ length xs → Casts α xs ys → rank_row low ≡ pos 0 ∷ row_of q.low → rank_row high ≡ pos 0 ∷ row_of q.high → Begins ranks rank_row rank_span ys all (paid q low high) was s → (Plain.asking ranks rank_row rank_span (length ys) (paid q low high) (length was) ≡ Ok tt → EndsAsAsked rank_row (length ys) (paid q low high) (table_of s)) → Shadowed α xs q was s
+shadowed_over α xs ys q low high all was s f long casts e g begins asked =
     let ok : Plain.asking ranks rank_row rank_span (length ys) (paid q low high) (length was) ≡ Ok tt = ap (λ n. Plain.asking ranks rank_row rank_span n (paid q low high) (length was)) long ∙ accepted (length xs) (length was) q low high f e g in
-    let starts : Starts-straight ranks rank_row rank_span ys all (paid q low high) was s = subst (BeginsBy ranks rank_row rank_span ys all (paid q low high) was s) ok begins in
+    let starts : StartsStraight ranks rank_row rank_span ys all (paid q low high) was s = subst (BeginsBy ranks rank_row rank_span ys all (paid q low high) was s) ok begins in
     let few : Few rank_span ys = record { count = omega (arith, f.few); each = casts.small } in
     let w = starts.written in
+    let ends = asked ok in
     record {
       count = starts.count few ∙ long;
       size = starts.size few;
       first = ap (λ n. entries rank_row n (table_of s)) (sym long) ∙ w.first ∙ casts.rows;
       holds = starts.sound few;
-      low = λ d. ap (λ n. rank_row (get_or (table_of s) (offset n q.size) d)) (sym long) ∙ w.low few tt d ∙ e;
-      high = λ d. ap (λ n. rank_row (get_or (table_of s) (offset n q.size + 1) d)) (sym long) ∙ w.high few tt d ∙ g;
+      low = λ d. ap (λ n. rank_row (get_or (table_of s) (offset n q.size) d)) (sym long) ∙ ends.low d ∙ e;
+      high = λ d. ap (λ n. rank_row (get_or (table_of s) (offset n q.size + 1) d)) (sym long) ∙ ends.high d ∙ g;
       kept = ap (λ n. drop (offset n q.size + 2) (table_of s)) (sym long) ∙ w.kept ∙ ap (λ n. drop (offset n q.size + 2) was) long;
     }
 

@@ -1,8 +1,8 @@
 // The Search on a crossed roll: one straight Search for each rank total, all over one table.
-ghost use Rattle.std.specs.Prelude.{◌≡◌, ◌+◌, ◌<◌, ◌≤◌, min, true, length, take, drop, IfOk, MatchResult};
+ghost use Rattle.std.specs.Prelude.{◌≡◌, ◌+◌, ◌<◌, ◌≤◌, min, true, length, take, drop, IfOk, IfErr, MatchResult};
 ghost use Rattle.roll.specs.declared.refusal.Refusal.TheVariants.{ShortPage};
 ghost use Rattle.sets.specs.Advance.{run};
-ghost use Rattle.sets.specs.Crossed.{shadow as shadow-of};
+ghost use Rattle.sets.specs.Crossed.{shadow as shadow_of};
 ghost use Rattle.exploring.specs.Meaning.{size_of, Same, Ran};
 ghost use Rattle.crossed.specs.Rolls.{standing};
 ghost use Rattle.crossing.specs.Ranks.{rank_row, row_of, Fallen, Each, Ranged};
@@ -149,14 +149,14 @@ pub fn begin<'t>(roll: &Roll, asked: Question, table: &'t mut [Ranked]) -> Searc
 impl Course {
     // The low end of the rank total that is explored now.
     fn low_end(&self) -> Ranked
-        ensures { Moderate self.now → self.now.rank ≤ 7260 → rank_row result ≡ shadow-of (row_of self.now.falls) self.now.rank (row_of self.now.low) }
+        ensures { Moderate self.now → self.now.rank ≤ 7260 → rank_row result ≡ shadow_of (row_of self.now.falls) self.now.rank (row_of self.now.low) }
     {
         shadow(self.falls, self.rank, self.low)
     }
 
     // The high end of the rank total that is explored now.
     fn high_end(&self) -> Ranked
-        ensures { Moderate self.now → self.now.rank ≤ 7260 → rank_row result ≡ shadow-of (row_of self.now.falls) self.now.rank (row_of self.now.high) }
+        ensures { Moderate self.now → self.now.rank ≤ 7260 → rank_row result ≡ shadow_of (row_of self.now.falls) self.now.rank (row_of self.now.high) }
     {
         shadow(self.falls, self.rank, self.high)
     }
@@ -202,7 +202,8 @@ impl<'t> Search<'t> {
         ensures same { Same self.old.straight self.new.straight }
         ensures kept { Keeps self.old → Keeps self.new }
         ensures beyond { drop (size_of self.old.straight) page.new ≡ drop (size_of self.old.straight) page.old }
-        ensures safe { MatchResult result (λ a. (a.steps ≤ allowance) × (size_of self.old.straight ≤ length page.old)) (λ e. (e ≡ ShortPage) × (length page.old < size_of self.old.straight) × (self.new ≡ self.old) × (page.new ≡ page.old)) }
+        ensures safe { MatchResult result (λ a. (a.steps ≤ allowance) × (size_of self.old.straight ≤ length page.old)) (λ e. (e ≡ ShortPage) × (length page.old < size_of self.old.straight)) }
+        ensures refused { IfErr result (λ _. (self.new ≡ self.old) × (page.new ≡ page.old)) }
         ensures counted { IfOk result (λ a. a.told ≡ Told.Set → 0 < a.steps) }
         ensures is { Keeps self.old → IfOk result (λ a. Ran (run (to_come self.old) allowance 0) a page.old page.new (to_come self.new)) }
     {

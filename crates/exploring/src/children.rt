@@ -1,5 +1,5 @@
 ghost use Rattle.std.specs.Prelude.{◌≡◌, ℕ, ◌+◌, ◌<◌, ◌≤◌, take, slice_index};
-ghost use Rattle.sets.specs.Spaces.{child as child-of, space};
+ghost use Rattle.sets.specs.Spaces.{child as child_of, space};
 
 use squeezing::frame::Frame;
 
@@ -10,7 +10,7 @@ pub(crate) fn child(frame: Frame, i: usize, v: u16) -> Frame
     requires settled { (j : ℕ) → j < i → slice_index frame.lo j ≡ slice_index frame.hi j }
     ensures same { (result.n ≡ frame.n) × (result.m ≡ frame.m) }
     ensures settled { (j : ℕ) → j < i + 1 → slice_index result.lo j ≡ slice_index result.hi j }
-    ensures is { space (take frame.m result.lo) (take frame.m result.hi) ≡ child-of (space (take frame.m frame.lo) (take frame.m frame.hi)) (i + 1) v }
+    ensures is { space (take frame.m result.lo) (take frame.m result.hi) ≡ child_of (space (take frame.m frame.lo) (take frame.m frame.hi)) (i + 1) v }
 {
     let Frame {
         n,

@@ -48,6 +48,16 @@ accepted a row span n q cells h =
       room = leb-true _ cells roomy.0;
     }
 
+-- what holds is there for the side that needs it
+pub needed : (side : Side) {T : Type 0} → T → Needed side T
+needed Paid t = tt
+needed Left t = t
+
+-- an end of the band of the paid side is as asked
+pub end_paid : (a : Algebra) (side : Side) (T : Type 0) (all this other x : Row) → side ≡ Paid → (Needed side T → x ≡ end a side all this other) → x ≡ this
+end_paid a Paid T all this other x e h = h tt
+end_paid a Left T all this other x e h = cc
+
 -- an end of the sought band, worked out from what all entries come to
 pub end_is : {M : Type 0} (a : Algebra) (row : M → Row) (span : M → ℕ) (xs : List (Entry M)) (all : M) (side : Side) (this other r : M) → Few span xs → Needed side (Totals a row span xs all) → span other ≤ 1 → (Needed side (span all + span other ≤ 240) → row r ≡ end a side (row all) (row this) (row other)) → row r ≡ end a side (total_of_all a (rows_of row xs)) (row this) (row other)
 end_is a row span xs all Paid this other r few totals small exact = exact tt

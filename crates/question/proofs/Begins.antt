@@ -13,7 +13,7 @@ use Rattle.exploring.specs.Meaning.{count_of, size_of, Begun}
 use Rattle.squeezing.specs.Table.{offset, entries}
 use Rattle.question.specs.declared.asking.Question.{Question}
 use Rattle.exploring.specs.declared.state.Search.{Search}
-use Rattle.question.proofs.Asked.{accepted, end_is}
+use Rattle.question.proofs.Asked.{accepted, needed, end_is}
 use Rattle.question.proofs.Writing.{ends_fit}
 
 fits_all : (n m cells : ℕ) → 1 ≤ m → m ≤ n → n ≤ 120 → offset n m ≤ cells → fits n m cells ≡ true
@@ -27,7 +27,7 @@ module _ {M : Type 0} (a : Algebra) (row : M → Row) (span : M → ℕ) (xs : L
       (Needed q.side (span all + span q.low ≤ 240) → row high ≡ end a q.side (row all) (row q.high) (row q.low)) →
       Begun a row span (length xs) (sought q.side (length xs) q.size) is low high s →
       Starts a row span xs all q was s
-  starts ok long w low-is high_is b =
+  starts ok long w low_is high_is b =
       let n : ℕ = length xs in
       let m : ℕ = sought q.side n q.size in
       let known = accepted a row span n q (length was) ok in
@@ -44,6 +44,6 @@ module _ {M : Type 0} (a : Algebra) (row : M → Row) (span : M → ℕ) (xs : L
             ∙ cond-true (fits n m (length is)) (trace a (entries row n is) (row low) (row high) m) [] (fit few)
             ∙ ap (λ rs. trace a rs (row low) (row high) m) w.first
             ∙ ap₂ (λ l h. trace a (rows_of row xs) l h m)
-            (end_is a row span xs all q.side q.low q.high low few totals known.high low-is)
-            (end_is a row span xs all q.side q.high q.low high few totals known.low high_is);
+            (end_is a row span xs all q.side q.low q.high low few (needed q.side totals) known.high low_is)
+            (end_is a row span xs all q.side q.high q.low high few (needed q.side totals) known.low high_is);
       }

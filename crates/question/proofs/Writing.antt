@@ -5,10 +5,11 @@ use Rattle.measure.specs.Algebra.{Algebra, Row}
 use Rattle.roll.specs.declared.straight.Entry.{Entry}
 use Rattle.roll.specs.Totals.{Few}
 use Rattle.question.specs.declared.asking.Question.{Question}
+use Rattle.question.specs.declared.asking.Side.TheVariants.{Paid}
 use Rattle.question.specs.Asking.{Needed, sought, end}
-use Rattle.question.specs.Filling.{values, ends_at, Written}
+use Rattle.question.specs.Filling.{values, ends_at, Written, EndsAsAsked}
 use Rattle.squeezing.specs.Table.{Holds}
-use Rattle.question.proofs.Asked.{Accepted, end_is}
+use Rattle.question.proofs.Asked.{Accepted, needed, end_paid, end_is}
 use Rattle.squeezing.proofs.Columns.{offset-past}
 use Rattle.question.proofs.Agreeing.{back_kept}
 use Rattle.question.proofs.Laying.{entries_are, holds-set}
@@ -22,12 +23,35 @@ module _ {M : Type 0} (a : Algebra) (row : M → Row) (span : M → ℕ) (xs : L
   abbrev both : List M
   both = set (set filled at low) (at + 1) high
 
+  -- the two ends, where they stand
+  low_at : Accepted span (length xs) q (length was) → at ≡ ends_at (length xs) q → length filled ≡ length was → (d : M) → get_or both (ends_at (length xs) q) d ≡ low
+  low_at ok at_is size d =
+      let room = ends_fit span (length xs) q (length was) ok in
+      let longer = length-set filled at low in
+      ap (λ j. get_or both j d) (sym at_is) ∙ get_or-set_other (set filled at low) (at + 1) at high d (λ e. omega arith) ∙ get_or-set_same filled at low d (omega arith)
+
+  high_at : Accepted span (length xs) q (length was) → at ≡ ends_at (length xs) q → length filled ≡ length was → (d : M) → get_or both (ends_at (length xs) q + 1) d ≡ high
+  high_at ok at_is size d =
+      let room = ends_fit span (length xs) q (length was) ok in
+      let longer = length-set filled at low in
+      ap (λ j. get_or both (j + 1) d) (sym at_is) ∙ get_or-set_same (set filled at low) (at + 1) high d (omega arith)
+
+  -- for the paid side they are as asked
+  pub as_asked : Accepted span (length xs) q (length was) → at ≡ ends_at (length xs) q → length filled ≡ length was →
+      (Needed q.side (span all + span q.high ≤ 240) → row low ≡ end a q.side (row all) (row q.low) (row q.high)) →
+      (Needed q.side (span all + span q.low ≤ 240) → row high ≡ end a q.side (row all) (row q.high) (row q.low)) →
+      q.side ≡ Paid → EndsAsAsked row (length xs) q both
+  as_asked ok at_is size low_is high_is paid = record {
+    low = λ d. ap row (low_at ok at_is size d) ∙ end_paid a q.side (span all + span q.high ≤ 240) (row all) (row q.low) (row q.high) (row low) paid low_is;
+    high = λ d. ap row (high_at ok at_is size d) ∙ end_paid a q.side (span all + span q.low ≤ 240) (row all) (row q.high) (row q.low) (row high) paid high_is;
+  }
+
   pub written : Accepted span (length xs) q (length was) → at ≡ ends_at (length xs) q → length filled ≡ length was →
       take (length xs) filled ≡ values xs → (Few span xs → Holds a row span (length xs) (sought q.side (length xs) q.size) filled) → drop at filled ≡ drop at was →
       (Needed q.side (span all + span q.high ≤ 240) → row low ≡ end a q.side (row all) (row q.low) (row q.high)) →
       (Needed q.side (span all + span q.low ≤ 240) → row high ≡ end a q.side (row all) (row q.high) (row q.low)) →
       Written a row span xs all q was both
-  written ok at_is size first held kept low-is high_is =
+  written ok at_is size first held kept low_is high_is =
       let room = ends_fit span (length xs) q (length was) ok in
       let past : length xs ≤ at = omega (arith, offset-past (length xs) (sought q.side (length xs) q.size) ok.some) in
       let longer = length-set filled at low in
@@ -36,11 +60,11 @@ module _ {M : Type 0} (a : Algebra) (row : M → Row) (span : M → ℕ) (xs : L
         first = entries_are row xs both (take-set-le (length xs) (set filled at low) (at + 1) high (omega arith) ∙ take-set-le (length xs) filled at low past ∙ first);
         held = λ few. holds-set a row span (length xs) m (at + 1) high (set filled at low) (omega arith) (omega arith) (holds-set a row span (length xs) m at low filled past (omega arith) (held few));
         low = λ few totals d.
-            ap row (ap (λ j. get_or both j d) (sym at_is) ∙ get_or-set_other (set filled at low) (at + 1) at high d (λ e. omega arith) ∙ get_or-set_same filled at low d (omega arith))
-            ∙ end_is a row span xs all q.side q.low q.high low few totals ok.high low-is;
+            ap row (low_at ok at_is size d)
+            ∙ end_is a row span xs all q.side q.low q.high low few (needed q.side totals) ok.high low_is;
         high = λ few totals d.
-            ap row (ap (λ j. get_or both (j + 1) d) (sym at_is) ∙ get_or-set_same (set filled at low) (at + 1) high d (omega arith))
-            ∙ end_is a row span xs all q.side q.high q.low high few totals ok.low high_is;
+            ap row (high_at ok at_is size d)
+            ∙ end_is a row span xs all q.side q.high q.low high few (needed q.side totals) ok.low high_is;
         kept =
             ap (λ j. drop (j + 2) both) (sym at_is)
             ∙ drop-set-lt (at + 2) (set filled at low) (at + 1) high (omega arith) ∙ drop-set-lt (at + 2) filled at low (omega arith)

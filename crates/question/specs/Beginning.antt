@@ -6,7 +6,7 @@ use Rattle.sets.specs.Trace.{trace}
 use Rattle.roll.specs.Totals.{rows_of, Few, Totals}
 use Rattle.roll.specs.declared.refusal.Refusal.{Refusal}
 use Rattle.roll.specs.declared.straight.Entry.{Entry}
-use Rattle.question.specs.Asking.{Needed, sought, asking, searched_low, searched_high}
+use Rattle.question.specs.Asking.{sought, asking, searched_low, searched_high}
 use Rattle.question.specs.Filling.{Written}
 use Rattle.exploring.specs.Meaning.{table_of, count_of, size_of, coming, Sound}
 use Rattle.question.specs.declared.asking.Question.{Question}
@@ -19,19 +19,18 @@ pub record Starts {M : Type 0} (a : Algebra) (row : M → Row) (span : M → ℕ
   pub count : Few span xs → count_of s ≡ length xs
   pub size : Few span xs → size_of s ≡ sought q.side (length xs) q.size
   pub sound : Few span xs → Sound a row span s
-  pub comes : Few span xs → Needed q.side (Totals a row span xs all) → coming a row s ≡ trace a (rows_of row xs) (searched_low a row (rows_of row xs) q) (searched_high a row (rows_of row xs) q) (sought q.side (length xs) q.size)
+  pub comes : Few span xs → Totals a row span xs all → coming a row s ≡ trace a (rows_of row xs) (searched_low a row (rows_of row xs) q) (searched_high a row (rows_of row xs) q) (sought q.side (length xs) q.size)
 
 -- the Search after a refusal
-pub record Stays {M : Type 0} (a : Algebra) (row : M → Row) (span : M → ℕ) (was : List M) (s : Search M) : Type 0 where
+pub record Stays {M : Type 0} (a : Algebra) (row : M → Row) (was : List M) (s : Search M) : Type 0 where
   pub table : table_of s ≡ was
   pub size : size_of s ≡ 0
-  pub sound : Sound a row span s
   pub comes : coming a row s ≡ []
 
 -- the Search for what the question is answered
 abbrev pub BeginsBy : {M : Type 0} → Algebra → (M → Row) → (M → ℕ) → List (Entry M) → M → Question M → List M → Search M → Result (Unit {0}) Refusal → Type 0
 BeginsBy a row span xs all q was s (Ok u) = Starts a row span xs all q was s
-BeginsBy a row span xs all q was s (Err r) = Stays a row span was s
+BeginsBy a row span xs all q was s (Err r) = Stays a row was s
 
 abbrev pub Begins : {M : Type 0} → Algebra → (M → Row) → (M → ℕ) → List (Entry M) → M → Question M → List M → Search M → Type 0
 Begins a row span xs all q was s = BeginsBy a row span xs all q was s (asking a row span (length xs) q (length was))

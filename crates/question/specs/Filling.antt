@@ -5,7 +5,7 @@ use Rattle.measure.specs.Algebra.{Algebra, Row}
 use Rattle.roll.specs.declared.straight.Entry.{Entry}
 use Rattle.roll.specs.Totals.{rows_of, Few, Totals}
 use Rattle.question.specs.declared.asking.Question.{Question}
-use Rattle.question.specs.Asking.{Needed, sought, searched_low, searched_high}
+use Rattle.question.specs.Asking.{sought, searched_low, searched_high}
 use Rattle.squeezing.specs.Table.{Stood, Holds, entries, offset}
 
 -- the values of entries
@@ -25,6 +25,11 @@ ends_at n q = offset n (sought q.side n q.size)
 pub record Written {M : Type 0} (a : Algebra) (row : M → Row) (span : M → ℕ) (xs : List (Entry M)) (all : M) (q : Question M) (was is : List M) : Type 0 where
   pub first : entries row (length xs) is ≡ rows_of row xs
   pub held : Few span xs → Holds a row span (length xs) (sought q.side (length xs) q.size) is
-  pub low : Few span xs → Needed q.side (Totals a row span xs all) → (d : M) → row (slice_index_or is (ends_at (length xs) q) d) ≡ searched_low a row (rows_of row xs) q
-  pub high : Few span xs → Needed q.side (Totals a row span xs all) → (d : M) → row (slice_index_or is (ends_at (length xs) q + 1) d) ≡ searched_high a row (rows_of row xs) q
+  pub low : Few span xs → Totals a row span xs all → (d : M) → row (slice_index_or is (ends_at (length xs) q) d) ≡ searched_low a row (rows_of row xs) q
+  pub high : Few span xs → Totals a row span xs all → (d : M) → row (slice_index_or is (ends_at (length xs) q + 1) d) ≡ searched_high a row (rows_of row xs) q
   pub kept : drop (ends_at (length xs) q + 2) is ≡ drop (ends_at (length xs) q + 2) was
+
+-- the two ends stand in the table as they were asked, where n entries stand
+pub record EndsAsAsked {M : Type 0} (row : M → Row) (n : ℕ) (q : Question M) (is : List M) : Type 0 where
+  pub low : (d : M) → row (slice_index_or is (ends_at n q) d) ≡ row q.low
+  pub high : (d : M) → row (slice_index_or is (ends_at n q + 1) d) ≡ row q.high

@@ -1,10 +1,13 @@
 // The two calls of a question: the first tells the refusal, the second begins the Search and cannot refuse.
 ghost use Rattle.std.specs.Prelude.{◌≡◌, length, Ok};
 ghost use Rattle.roll.specs.Standing.{standing};
+ghost use Rattle.roll.specs.Totals.{Few};
+ghost use Rattle.exploring.specs.Meaning.{table_of, Sound};
 ghost use Rattle.question.specs.Asking.{asking};
+ghost use Rattle.question.specs.Filling.{EndsAsAsked};
 ghost use Rattle.question.specs.Beginning.{Starts, Stays, Begins, Answers};
 
-use crate::asking::{Question, judge, searched_end, searched_size};
+use crate::asking::{Question, Side, judge, searched_end, searched_size};
 use crate::filling::write_table;
 use exploring::starting::over;
 use exploring::state::Search;
@@ -27,7 +30,8 @@ fn begin_accepted<'t, M: Measure>(
     table: &'t mut [M],
 ) -> Search<'t, M>
     requires { asking M.algebra M.Measure.row M.span (length entries.now) asked (length table.old) ≡ Ok tt }
-    ensures { Starts M.algebra M.Measure.row M.span entries.now all asked table.old result }
+    ensures starts { Starts M.algebra M.Measure.row M.span entries.now all asked table.old result }
+    ensures paid { asked.side ≡ Side.Paid → EndsAsAsked M.Measure.row (length entries.now) asked (table_of result) }
 {
     write_table(entries, all, asked, table);
     let m = searched_size(asked.side, entries.len(), asked.size);
@@ -38,7 +42,8 @@ fn begin_accepted<'t, M: Measure>(
 
 // A finished Search of size 0.
 fn begin_refused<'t, M: Measure>(table: &'t mut [M]) -> Search<'t, M>
-    ensures { Stays M.algebra M.Measure.row M.span table.old result }
+    ensures stays { Stays M.algebra M.Measure.row table.old result }
+    ensures sound { Sound M.algebra M.Measure.row M.span result }
 {
     over(table, 0, 0, M::nothing(), M::nothing())
 }
@@ -51,7 +56,9 @@ pub fn begin_over<'t, M: Measure>(
     asked: Question<M>,
     table: &'t mut [M],
 ) -> Search<'t, M>
-    ensures { Begins M.algebra M.Measure.row M.span entries.now all asked table.old result }
+    ensures begins { Begins M.algebra M.Measure.row M.span entries.now all asked table.old result }
+    ensures sound { Few M.span entries.now → Sound M.algebra M.Measure.row M.span result }
+    ensures paid { asking M.algebra M.Measure.row M.span (length entries.now) asked (length table.old) ≡ Ok tt → asked.side ≡ Side.Paid → EndsAsAsked M.Measure.row (length entries.now) asked (table_of result) }
 {
     match judge(entries, asked, table.len()) {
         Ok(()) => begin_accepted(entries, all, asked, table),
@@ -65,7 +72,8 @@ pub fn begin<'t, M: Measure>(
     asked: Question<M>,
     table: &'t mut [M],
 ) -> Search<'t, M>
-    ensures { Answers M.algebra M.Measure.row M.span (standing roll.now) asked table.old result }
+    ensures answers { Answers M.algebra M.Measure.row M.span (standing roll.now) asked table.old result }
+    ensures sound { Few M.span (standing roll.now) → Sound M.algebra M.Measure.row M.span result }
 {
     begin_over(roll.entries(), roll.total(), asked, table)
 }

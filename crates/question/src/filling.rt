@@ -3,9 +3,9 @@ ghost use Rattle.std.specs.Prelude.{◌≡◌, ◌+◌, ◌-◌, ◌<◌, ◌≤
 ghost use Rattle.roll.specs.Totals.{Few, rows_of};
 ghost use Rattle.squeezing.specs.Table.{Holds, offset};
 ghost use Rattle.question.specs.Asking.{asking};
-ghost use Rattle.question.specs.Filling.{values, Laid, Written};
+ghost use Rattle.question.specs.Filling.{values, Laid, Written, EndsAsAsked};
 
-use crate::asking::{Question, searched_end, searched_size};
+use crate::asking::{Question, Side, searched_end, searched_size};
 use measure::Measure;
 use roll::straight::Entry;
 
@@ -76,7 +76,8 @@ pub(crate) fn write_table<M: Measure>(
     table: &mut [M],
 )
     requires { asking M.algebra M.Measure.row M.span (length entries.now) asked (length table.old) ≡ Ok tt }
-    ensures { Written M.algebra M.Measure.row M.span entries.now all asked table.old table.new }
+    ensures written { Written M.algebra M.Measure.row M.span entries.now all asked table.old table.new }
+    ensures paid { asked.side ≡ Side.Paid → EndsAsAsked M.Measure.row (length entries.now) asked table.new }
 {
     let m = searched_size(asked.side, entries.len(), asked.size);
     let at = fill(entries, m, table);

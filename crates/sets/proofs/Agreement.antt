@@ -110,7 +110,7 @@ before_is (h ∷ k ∷ hi) zero l = cond-true (ltb 1 (suc (suc (length hi)))) (m
 before_is (h ∷ k ∷ hi) (suc i) l =
     ap (λ b. cond b (min (get_or (k ∷ hi) i 0) (get_or (k ∷ hi) (suc i) 0 - 1)) (get_or (k ∷ hi) i 0)) (leb-suc-suc (suc (suc i)) (length (k ∷ hi))) ∙ before_is (k ∷ hi) i (omega arith)
 
--- `concat-map` is the library's `joined`
+-- `concat_map` is the library's `flat_map`
 concat_is : {A B : Type 0} (f : A → List B) (ys : List A) → Trace.concat_map f ys ≡ flat_map f ys
 concat_is f [] = refl
 concat_is f (y ∷ ys) = ap (λ t. f y ++ t) (concat_is f ys)

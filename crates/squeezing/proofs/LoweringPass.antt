@@ -100,11 +100,11 @@ back_none a row span n m table lo v x some none = record {
 
 -- all positions are lowered
 pub sunk_all : (a : Algebra) (xs : List Row) (high : Row) (H : Type 0) (n : ℕ) (lo was is : List ℕ) (i : ℕ) (moved : Bool) → i ≡ 0 → length is ≡ length lo → Higher n is → Lowered i lo is → Fell moved was is → (H → lower_from a xs high lo (length lo) was ≡ lower_from a xs high lo i is) → Sunk H n lo was is (lower_from a xs high lo (length lo) was) moved
-sunk_all a xs high H n lo was is i moved end same high-places lowered fell found =
+sunk_all a xs high H n lo was is i moved end same high_places lowered fell found =
     record {
       same = same;
       found = λ held. found held ∙ ap (λ k. lower_from a xs high lo k is) end;
-      higher = high-places;
+      higher = high_places;
       lowered = subst (λ k. Lowered k lo is) end lowered;
       fell = fell;
     }

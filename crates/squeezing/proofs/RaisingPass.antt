@@ -103,12 +103,12 @@ front_next a row span n m table hi lo i v s x within f =
 
 -- all positions are raised
 pub swept_all : (a : Algebra) (xs : List Row) (low : Row) (H : Type 0) (n : ℕ) (hi was is : List ℕ) (i : ℕ) (moved : Bool) → i ≡ length hi → length is ≡ length hi → Lower n is → Settled i is hi → Rose moved was is → (H → raise_from a xs low hi 1 (length hi) was ≡ raise_from a xs low hi (i + 1) (length hi - i) is) → Swept H n hi was is (raise_from a xs low hi 1 (length hi) was) moved
-swept_all a xs low H n hi was is i moved end same low-places settled rose found =
+swept_all a xs low H n hi was is i moved end same low_places settled rose found =
     let none : length hi - i ≡ 0 = omega arith in
     record {
       same = same;
       found = λ held. found held ∙ ap (λ k. raise_from a xs low hi (i + 1) k is) none;
-      lower = low-places;
+      lower = low_places;
       settled = subst (λ k. Settled k is hi) end settled;
       rose = rose;
     }

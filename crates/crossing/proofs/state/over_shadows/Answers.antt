@@ -1,4 +1,4 @@
-use Rattle.std.proofs.Common.{◌≡◌, ◌-◌, length, take, sym, ap, ◌∙◌, subst, arith}
+use Rattle.std.proofs.Common.{◌≡◌, ◌-◌, length, take, sym, refl, ap, ◌∙◌, subst, arith}
 use native.Mathlib.Nat.{sub-zero}
 use Rattle.std.proofs.lemmas.List.{take_all, length-take-le}
 use Rattle.crossing.specs.Ranks.{row_of}
@@ -17,4 +17,4 @@ returns c = λ ranged fallen.
     let whole : take n xs ≡ xs = take_all n xs (omega arith) in
     let casts : Casts α xs (take (n - 0) made) = subst (λ k. Casts α xs (take k made)) (sym (sub-zero n)) (subst (λ l. Casts α l (take n made)) whole (c.cast-n.ensures.cast ranged fallen)) in
     let size : length (take (n - 0) made) ≡ length xs = ap (λ k. length (take k made)) (sub-zero n) ∙ length-take-le n made (omega (arith, c.requires.few)) ∙ all in
-    shadowed_over α xs (take (n - 0) made) c.args.asked c.ranked.result c.ranked-2.result c.nothing-2.result c.args.table.now c.begin_over.result c.requires size casts c.ranked.ensures c.ranked-2.ensures c.begin_over.ensures
+    shadowed_over α xs (take (n - 0) made) c.args.asked c.ranked.result c.ranked-2.result c.nothing-2.result c.args.table.now c.begin_over.result c.requires size casts c.ranked.ensures c.ranked-2.ensures c.begin_over.ensures.begins (λ ok. c.begin_over.ensures.paid ok refl)

@@ -12,4 +12,7 @@ answered : {M : Type 0} (a : Algebra) (row : M → Row) (span : M → ℕ) (xs :
 answered a row span xs q was s all begins totals = record { all = all; totals = totals; begins = begins }
 
 pub returns : goal.returns
-returns g c = answered _ _ _ _ _ _ _ _ (rw c.entries.ensures at c.begin_over.ensures) (search rules)
+returns g c = record {
+  answers = answered _ _ _ _ _ _ _ _ (rw c.entries.ensures at c.begin_over.ensures.begins) (search rules);
+  sound = rw c.entries.ensures at c.begin_over.ensures.sound;
+}

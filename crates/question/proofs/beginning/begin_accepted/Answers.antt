@@ -1,5 +1,6 @@
-use Rattle.std.proofs.Common.{length, subst}
+use Rattle.std.proofs.Common.{length, sym, subst}
 use Rattle.exploring.specs.Meaning.{Begun}
+use Rattle.question.specs.Filling.{EndsAsAsked}
 use Rattle.question.proofs.Begins.{starts}
 use Rattle.question.proofs.beginning.begin_accepted.Goals as goal
 
@@ -12,4 +13,7 @@ returns g c =
     let high = c.searched_end-high.result in
     let s = c.over.result in
     let begun = subst (λ k. Begun m.algebra m.row m.span (length xs) k is low high s) c.searched_size-m.ensures c.over.ensures in
-    starts m.algebra m.row m.span xs c.args.all c.args.asked c.args.table.now is s low high c.requires c.write_table.auto.table c.write_table.ensures c.searched_end-low.ensures c.searched_end-high.ensures begun
+    record {
+      starts = starts m.algebra m.row m.span xs c.args.all c.args.asked c.args.table.now is s low high c.requires c.write_table.auto.table c.write_table.ensures.written c.searched_end-low.ensures c.searched_end-high.ensures begun;
+      paid = λ side. subst (EndsAsAsked m.row (length xs) c.args.asked) (sym begun.table_is) (c.write_table.ensures.paid side);
+    }

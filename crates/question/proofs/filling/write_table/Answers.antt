@@ -1,8 +1,8 @@
 use Rattle.std.proofs.Common.{◌≡◌, length, sym, ap, ◌∙◌, subst, arith}
-use Rattle.question.specs.Filling.{ends_at, Written}
+use Rattle.question.specs.Filling.{ends_at, Written, EndsAsAsked}
 use Rattle.squeezing.specs.Table.{Holds, offset}
 use Rattle.question.proofs.Asked.{accepted}
-use Rattle.question.proofs.Writing.{ends_fit, written}
+use Rattle.question.proofs.Writing.{ends_fit, as_asked, written}
 use Rattle.question.proofs.filling.write_table.Goals as goal
 
 pub fill-at-requires : goal.fill-at-requires
@@ -38,8 +38,16 @@ returns g c =
     let m_is = c.searched_size-m.ensures in
     let at_is : c.fill-at.result ≡ ends_at n q = c.fill-at.ensures.past ∙ ap (offset n) m_is in
     let ok = accepted m.algebra m.row m.span n q (length was) c.requires in
-    subst (λ t. Written m.algebra m.row m.span xs c.args.all q was t) (sym c.put_ends.ensures)
-    (written m.algebra m.row m.span xs c.args.all q was filled c.fill-at.result c.searched_end-low.result c.searched_end-high.result
-    ok at_is c.fill-at.auto.table c.fill-at.ensures.first
-    (λ few. subst (λ k. Holds m.algebra m.row m.span n k filled) m_is (c.fill-at.ensures.held few))
-    c.fill-at.ensures.kept c.searched_end-low.ensures c.searched_end-high.ensures)
+    let put = sym c.put_ends.ensures in
+    record {
+      written =
+          subst (λ t. Written m.algebra m.row m.span xs c.args.all q was t) put
+          (written m.algebra m.row m.span xs c.args.all q was filled c.fill-at.result c.searched_end-low.result c.searched_end-high.result
+          ok at_is c.fill-at.auto.table c.fill-at.ensures.first
+          (λ few. subst (λ k. Holds m.algebra m.row m.span n k filled) m_is (c.fill-at.ensures.held few))
+          c.fill-at.ensures.kept c.searched_end-low.ensures c.searched_end-high.ensures);
+      paid = λ side.
+          subst (EndsAsAsked m.row n q) put
+          (as_asked m.algebra m.row m.span xs c.args.all q was filled c.fill-at.result c.searched_end-low.result c.searched_end-high.result
+          ok at_is c.fill-at.auto.table c.searched_end-low.ensures c.searched_end-high.ensures side);
+    }

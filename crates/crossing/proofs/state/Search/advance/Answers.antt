@@ -23,6 +23,7 @@ returns-then-not-is_finished c =
       kept = λ k. keeps_on s.course s.course s.straight t told.same (inv.3 k).moderate (inv.3 k);
       beyond = beyond_on (size_of s.straight) (size_of s0.straight) c.args.page.now c.ranks.page c.advance.new.page inv.1.size_same told.beyond inv.2;
       safe = (omega (arith, inv.0, told.safe.0), omega (arith, c.places.ensures));
+      refused = tt;
       counted = λ e. omega (arith, told.counted e);
       is = λ k.
           ran_ends (coming ranks rank_row s.straight) (later_than s) left c.ranks.steps a c.ranks.page c.advance.new.page (coming ranks rank_row t) (told.is (inv.3 k).holds) _ c.args.page.now _ (inv.5 k) (inv.4 k)
@@ -44,6 +45,7 @@ returns-then-self c =
       kept = λ k. keeps_on s.course s.course s.straight t told.same (inv.3 k).moderate (inv.3 k);
       beyond = beyond_on (size_of s.straight) (size_of s0.straight) c.args.page.now c.ranks.page c.advance.new.page inv.1.size_same told.beyond inv.2;
       safe = (omega (arith, inv.0, told.safe.0), omega (arith, c.places.ensures));
+      refused = tt;
       counted = λ e. let z : ◌≡◌ {A = ℕ} 0 1 = cc in absurd (omega arith);
       is = λ k.
           ran_out (coming ranks rank_row s.straight) (later_than s) left c.ranks.steps a c.ranks.page c.advance.new.page (coming ranks rank_row t) (told.is (inv.3 k).holds) _ c.args.page.now _ (inv.5 k) (inv.4 k) over
