@@ -98,12 +98,12 @@ mod questions {
         let _ = roll.enter(entry(1, 1));
         let _ = roll.enter(entry(2, 2));
         let mut table = [cents(0); 5];
-        let mut state = begin(&roll, asked(Side::Paid, 2, 3, 3), &mut table);
+        let mut search = begin(&roll, asked(Side::Paid, 2, 3, 3), &mut table);
         let mut one = [7u16; 1];
         let mut two = [7u16; 2];
-        assert!(rt; state.advance(9, &mut one).is_err());
+        assert!(rt; search.advance(9, &mut one).is_err());
         assert_eq!(rt; one[0], 7);
-        assert!(rt; state.advance(1, &mut two).is_ok());
+        assert!(rt; search.advance(1, &mut two).is_ok());
         assert_eq!(rt; two[1], 2);
     }
 
