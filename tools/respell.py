@@ -9,7 +9,27 @@ import re
 import sys
 
 # Names that would fall together with another name, or that their words give away badly.
-CHOSEN = {n: n.replace("-", "_") for n in ("crossed-finds", "crossed-sound", "crossed-order", "crossed-once", "crossed-counts")} | {"getD-climbs": "get_or-climbs", "ofZ-lt": "of_z-lt", "holds_on": "HoldsOn", "placeFor": "place_for"}
+CHOSEN = {n: n.replace("-", "_") for n in ("crossed-finds", "crossed-sound", "crossed-order", "crossed-once", "crossed-counts")} | {
+    "getD-climbs": "get_or-climbs",
+    "ofZ-lt": "of_z-lt",
+    "holds_on": "HoldsOn",
+    "placeFor": "place_for",
+    "table-size-is": "table_size_is",
+    "joined-append": "flat_map-append",
+    "joined-next": "flat_map_next",
+    "somes-joined": "somes-flat_map",
+    "length-joined-le": "length-flat_map_le",
+    "band-fits": "band_accepted",
+    "same-sound": "same_sound",
+    "same-amounts": "same_amounts",
+    "same-order": "same_order",
+} | {n: n.replace("-", "_") for n in ("own-rows", "enters-last", "raised-order", "complement-band", "shadow-rows", "set-band")}
+
+# Words of lemma names that say something of a name, though some definition has them as its own.
+PLAIN = set(
+    "is are exact in below between all count some none more same long past most once few one both each next within at from still "
+    "split moved behind before enough apart whole stands spent finished finds counts valid fits kept located many".split()
+)
 
 WORD = r"[^\s(){}\[\];,.`\"|:=]+"
 SIGNED = re.compile(r"^(\s*)((?:(?:abbrev|pub|unfoldable|record|data) )*)(" + WORD + r")((?:\s*[({].*?[)}])*)\s*:(?![:=])\s*(.*)$")
@@ -121,7 +141,7 @@ def main():
     root = pathlib.Path(".")
     found = declared(root)
     names = {n for n, s in found.items() if s - {"lemma"}} | {n for n in found if re.fullmatch(r"[A-Z]\w*", n)}
-    names -= {"is", "are", "exact", "in", "below", "between", "all", "count", "some", "none"}
+    names -= PLAIN
     names |= {"length", "take", "drop", "append", "nil", "cons", "map", "sum", "get_or", "set", "max", "min"}
     new = {n: respelled(n, s, names) for n, s in found.items()}
     new |= {"placeFor": CHOSEN["placeFor"]}

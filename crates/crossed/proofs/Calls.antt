@@ -11,7 +11,7 @@ use Rattle.roll.specs.declared.refusal.Refusal.{Refusal}
 use Rattle.roll.specs.declared.refusal.Refusal.TheVariants.{Inadmissible, NumberTaken, RollFull, NumberUnknown, PastColumns}
 use Rattle.crossed.specs.Entries.{in_range, past_zero}
 use Rattle.crossed.specs.Books.{numbered, put, without, enters, strikes, if_ok, index_of, insertion_point, at_index, at_place}
-use Rattle.crossed.proofs.Firsts.{numbered_is, put_is, without_is, first-within}
+use Rattle.crossed.proofs.Firsts.{numbered_is, put_is, without_is, first_within}
 use Rattle.crossed.proofs.Moves.{inserted_front}
 
 -- what entering answers, by where the number is found
@@ -57,7 +57,7 @@ module _ (cells : List Entry) (n : ℕ) (within : n ≤ length cells) where
       let xs : List Entry = take n cells in
       let nn = long in
       let h : n < length cells = omega (arith, ok_room d (length cells) xs e ok) in
-      let l : p ≤ length xs = omega (arith, first-within (λ x. not (ltb x.number e.number)) xs) in
+      let l : p ≤ length xs = omega (arith, first_within (λ x. not (ltb x.number e.number)) xs) in
       let z : n + 1 - 0 ≡ n + 1 = omega arith in
       let z' : length (take (n + 1 - 0) cells) ≡ n + 1 = ap (λ i. length (take i cells)) z ∙ length-take-le (n + 1) cells (omega arith) in
       let made' : part ≡ put e xs =
@@ -127,11 +127,11 @@ index_past (x ∷ xs) zero h = absurd (omega arith)
 index_past (x ∷ xs) (suc i) h = index_past xs i (omega arith)
 
 -- the entry at a place from 1 on, and none past the last
-pub place-within : {X : Type 0} (xs : List X) (p : ℕ) (d : X) → (p ≡ 0 → ⊥) → p ≤ length xs → Some (get_or xs (p - 1) d) ≡ at_place xs p
-place-within xs zero d n h = absurd (n refl)
-place-within xs (suc i) d n h = let z : suc i - 1 ≡ i = omega arith in ap (λ j. Some (get_or xs j d)) z ∙ index_within xs i d (omega arith)
+pub place_within : {X : Type 0} (xs : List X) (p : ℕ) (d : X) → (p ≡ 0 → ⊥) → p ≤ length xs → Some (get_or xs (p - 1) d) ≡ at_place xs p
+place_within xs zero d n h = absurd (n refl)
+place_within xs (suc i) d n h = let z : suc i - 1 ≡ i = omega arith in ap (λ j. Some (get_or xs j d)) z ∙ index_within xs i d (omega arith)
 
 -- nothing stands past the last place
-pub place-past : {X : Type 0} (xs : List X) (p : ℕ) → length xs < p → None ≡ at_place xs p
-place-past xs zero h = absurd (omega arith)
-place-past xs (suc i) h = index_past xs i (omega arith)
+pub place_past : {X : Type 0} (xs : List X) (p : ℕ) → length xs < p → None ≡ at_place xs p
+place_past xs zero h = absurd (omega arith)
+place_past xs (suc i) h = index_past xs i (omega arith)

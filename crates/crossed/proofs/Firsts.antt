@@ -24,9 +24,9 @@ module _ {X : Type 0} (p : X → Bool) (xs : List X) (m i : ℕ) (so : i + first
       omega arith
 
 -- the index found is within or the length
-pub first-within : {X : Type 0} (p : X → Bool) (xs : List X) → first_at p xs ≤ length xs
-first-within p [] = omega arith
-first-within p (x ∷ xs) = go (p x) (first-within p xs)
+pub first_within : {X : Type 0} (p : X → Bool) (xs : List X) → first_at p xs ≤ length xs
+first_within p [] = omega arith
+first_within p (x ∷ xs) = go (p x) (first_within p xs)
   where
     go : (b : Bool) → first_at p xs ≤ length xs → cond b 0 (suc (first_at p xs)) ≤ suc (length xs)
     go true h = omega arith

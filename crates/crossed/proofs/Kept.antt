@@ -52,18 +52,18 @@ without-rising n (x ∷ xs) h = go (eqb x.number n) (without-rising n xs h.1)
     go false r = (all_without (λ y. x.number < y.number) n xs h.0, r)
 
 -- one more stands
-put-long : (e : Entry) (xs : List Entry) → length (put e xs) ≡ suc (length xs)
-put-long e [] = refl
-put-long e (x ∷ xs) = go (ltb x.number e.number) (put-long e xs)
+put_long : (e : Entry) (xs : List Entry) → length (put e xs) ≡ suc (length xs)
+put_long e [] = refl
+put_long e (x ∷ xs) = go (ltb x.number e.number) (put_long e xs)
   where
     go : (b : Bool) → length (put e xs) ≡ suc (length xs) → length (cond b (x ∷ put e xs) (e ∷ x ∷ xs)) ≡ suc (suc (length xs))
     go true r = ap suc r
     go false r = refl
 
 -- no more stand
-without-long : (n : ℕ) (xs : List Entry) → length (without n xs) ≤ length xs
-without-long n [] = omega arith
-without-long n (x ∷ xs) = go (eqb x.number n) (without-long n xs)
+without_long : (n : ℕ) (xs : List Entry) → length (without n xs) ≤ length xs
+without_long n [] = omega arith
+without_long n (x ∷ xs) = go (eqb x.number n) (without_long n xs)
   where
     go : (b : Bool) → length (without n xs) ≤ length xs → length (cond b xs (x ∷ without n xs)) ≤ suc (length xs)
     go true r = omega arith
@@ -80,7 +80,7 @@ entered_well_formed d room xs e fit h = go (in_range d e.amounts) (numbered e.nu
     go : (a n r z : Bool) → in_range d e.amounts ≡ a → numbered e.number xs ≡ n → ltb (length xs) (min 120 room) ≡ r → past_zero d e.amounts ≡ z → WellFormed d (cond (is_ok (says a n r z)) (put e xs) xs)
     go true false true true p q s t =
         let k = ltb-true (length xs) (min 120 room) s in
-        (put-rising e xs h.0 q, all_put (Admitted d) e xs (fit, p, t) h.1, omega (arith, put-long e xs))
+        (put-rising e xs h.0 q, all_put (Admitted d) e xs (fit, p, t) h.1, omega (arith, put_long e xs))
     go true true r z p q s t = h
     go true false false z p q s t = h
     go true false true false p q s t = h
@@ -91,7 +91,7 @@ struck_well_formed : (d : Columns) (xs : List Entry) (n : ℕ) → WellFormed d 
 struck_well_formed d xs n h = go (numbered n xs)
   where
     go : (b : Bool) → WellFormed d (cond (is_ok {E = Refusal} (cond b (Ok (tt {0})) (Err NumberUnknown))) (without n xs) xs)
-    go true = (without-rising n xs h.0, all_without (Admitted d) n xs h.1, omega (arith, without-long n xs))
+    go true = (without-rising n xs h.0, all_without (Admitted d) n xs h.1, omega (arith, without_long n xs))
     go false = h
 
 -- and so do all calls

@@ -5,8 +5,8 @@ use Rattle.std.proofs.lemmas.List.{take_more, drop_more, set_at, length-take-le,
 use Rattle.std.proofs.lemmas.List.Edits.{length-insert, get_or-insert_at, get_or-insert_above, length-remove, get_or-remove_above}
 
 -- one more element of ys over xs
-pub over-more : {X : Type 0} (xs ys : List X) (i : ℕ) (y : X) → i < length xs → i < length ys → y ≡ get_or ys i y → set (take i ys ++ drop i xs) i y ≡ take (i + 1) ys ++ drop (i + 1) xs
-over-more xs ys i y h l e =
+pub over_more : {X : Type 0} (xs ys : List X) (i : ℕ) (y : X) → i < length xs → i < length ys → y ≡ get_or ys i y → set (take i ys ++ drop i xs) i y ≡ take (i + 1) ys ++ drop (i + 1) xs
+over_more xs ys i y h l e =
     ap (λ z. set (take i ys ++ z) i y) (drop_more xs i y h)
     ∙ set_at (take i ys) (get_or xs i y) (drop (i + 1) xs) y i (length-take-le i ys (omega arith))
     ∙ sym (append_assoc (take i ys) (y ∷ []) (drop (i + 1) xs))
@@ -36,7 +36,7 @@ module _ {X : Type 0} (xs : List X) (p : ℕ) (e : X) (within : p ≤ length xs)
   pub insert_again : (ys : List X) (i : ℕ) (carried next : X) → p ≤ i → i < length xs → ys ≡ take i (insert xs p e) ++ drop i xs → carried ≡ get_or (insert xs p e) i carried → next ≡ get_or ys i next → (set ys i carried ≡ take (i + 1) (insert xs p e) ++ drop (i + 1) xs) × (next ≡ get_or (insert xs p e) (i + 1) next)
   insert_again ys i carried next l h so c r =
       let n = length-insert xs p e within in (
-        ap (λ z. set z i carried) so ∙ over-more xs (insert xs p e) i carried h (omega arith) c,
+        ap (λ z. set z i carried) so ∙ over_more xs (insert xs p e) i carried h (omega arith) c,
         r ∙ ap (λ z. get_or z i next) so ∙ over_read xs (insert xs p e) i i next (omega arith) (omega arith) ∙ sym (get_or-insert_above xs p e next i l within),
       )
 
@@ -51,7 +51,7 @@ module _ {X : Type 0} (xs : List X) (p : ℕ) (within : p < length xs) where
   pub gap_again : (ys : List X) (i : ℕ) (next : X) → p ≤ i → i < length xs - 1 → ys ≡ take i (remove xs p) ++ drop i xs → next ≡ get_or ys (i + 1) next → set ys i next ≡ take (i + 1) (remove xs p) ++ drop (i + 1) xs
   gap_again ys i next l h so r =
       let n = length-remove xs p within in
-      ap (λ z. set z i next) so ∙ over-more xs (remove xs p) i next (omega arith) (omega arith)
+      ap (λ z. set z i next) so ∙ over_more xs (remove xs p) i next (omega arith) (omega arith)
       (r ∙ ap (λ z. get_or z (i + 1) next) so ∙ over_read xs (remove xs p) i (i + 1) next (omega arith) (omega arith) ∙ sym (get_or-remove_above xs p next i l within))
 
   pub gap_ends : (ys : List X) (i : ℕ) → length xs - 1 ≤ i → i ≤ length xs - 1 → ys ≡ take i (remove xs p) ++ drop i xs → take (length xs - 1) ys ≡ remove xs p

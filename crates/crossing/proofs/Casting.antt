@@ -55,11 +55,11 @@ rank_small v falls a r f b l e =
     (span_column v.second.second.second.first.value a.third falls.third r b.third f.third l (ap (cell 3) e))
     (span_column v.second.second.second.second.value a.fourth falls.fourth r b.fourth f.fourth l (ap (cell 4) e))
 
-shadows-more : (α : Row) (p : ℕ) (xs : List Row) (x : Row) → shadows α p (xs ++ (x ∷ [])) ≡ shadows α p xs ++ (shadow α (p + length xs) x ∷ [])
-shadows-more α p [] x = ap (λ k. shadow α k x ∷ []) (sym (add-zero p))
-shadows-more α p (y ∷ ys) x =
+shadows_more : (α : Row) (p : ℕ) (xs : List Row) (x : Row) → shadows α p (xs ++ (x ∷ [])) ≡ shadows α p xs ++ (shadow α (p + length xs) x ∷ [])
+shadows_more α p [] x = ap (λ k. shadow α k x ∷ []) (sym (add-zero p))
+shadows_more α p (y ∷ ys) x =
     let k : suc p + length ys ≡ p + length (y ∷ ys) = omega arith in
-    ap (λ l. shadow α p y ∷ l) (shadows-more α (suc p) ys x ∙ ap (λ q. shadows α (suc p) ys ++ (shadow α q x ∷ [])) k)
+    ap (λ l. shadow α p y ∷ l) (shadows_more α (suc p) ys x ∙ ap (λ q. shadows α (suc p) ys ++ (shadow α q x ∷ [])) k)
 
 pub casts_none : (α : Row) (xs : List Entry) (ys : List (Shadow Rank)) → Casts α (take 0 xs) (take 0 ys)
 casts_none α xs ys = record { rows = refl; small = tt }
@@ -80,7 +80,7 @@ casts_more falls xs ys i one e ranged fallen here room few at told was =
           ap (rows_by rank_row) ys_more ∙ map-append (λ o. rank_row o.value) (take i ys) (e ∷ [])
           ∙ ap₂ (λ l r. l ++ (r ∷ [])) was.rows row
           ∙ ap (λ k. shadows α 1 (rows_of (take i xs)) ++ (shadow α k (row_of one.amounts) ∷ [])) (sym place)
-          ∙ sym (shadows-more α 1 (rows_of (take i xs)) (row_of one.amounts))
+          ∙ sym (shadows_more α 1 (rows_of (take i xs)) (row_of one.amounts))
           ∙ ap (shadows α 1) (sym (map-append (λ o. row_of o.amounts) (take i xs) (one ∷ [])))
           ∙ ap (λ l. shadows α 1 (rows_of l)) (sym xs_more);
       small = subst (AllByRecursion (λ o. rank_span o.value ≤ 1)) (sym ys_more) (All-push (λ o. rank_span o.value ≤ 1) (take i ys) e was.small (rank_small e.value falls one.amounts (i + 1) fallen b (omega arith) row));

@@ -56,8 +56,8 @@ run-over (None ∷ xs) (suc left) k h = run-over xs left (k + 1) h
 run-over (Some ps ∷ xs) (suc left) k h = let z : ◌≡◌ {A = ℕ} 0 1 = cc in absurd (omega arith)
 
 -- the first of the rank totals that are left, and the others
-pub joined-next : (f : ℕ → Trace) (r last : ℕ) → r < last → flat_map f (range_with_len (r + 1) (last - r)) ≡ f (r + 1) ++ flat_map f (range_with_len (r + 1 + 1) (last - (r + 1)))
-joined-next f r last h =
+pub flat_map_next : (f : ℕ → Trace) (r last : ℕ) → r < last → flat_map f (range_with_len (r + 1) (last - r)) ≡ f (r + 1) ++ flat_map f (range_with_len (r + 1 + 1) (last - (r + 1)))
+flat_map_next f r last h =
     let k : last - r ≡ suc (last - (r + 1)) = omega arith in
     ap (λ q. flat_map f (range_with_len (r + 1) q)) k
 

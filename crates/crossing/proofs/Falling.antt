@@ -11,15 +11,15 @@ use Rattle.sets.specs.Crossed.{part_by_part, falls}
 use Rattle.crossed.specs.declared.entries.Amounts.{Amounts}
 use Rattle.crossed.specs.declared.entries.Entry.{Entry}
 use Rattle.crossing.specs.Ranks.{row_of, rows_of, Fallen, Small, Each, Ranged, Falls}
-use Rattle.crossing.proofs.Shadows.{fits-within}
+use Rattle.crossing.proofs.Shadows.{fits_within}
 
 -- four numbers that are each equal
 pub four_same : {a b c d a' b' c' d' : ℤ} → a ≡ a' → b ≡ b' → c ≡ c' → d ≡ d' → (a ∷ b ∷ c ∷ d ∷ []) ≡ (a' ∷ b' ∷ c' ∷ d' ∷ [])
 four_same p q r s = cc
 
 -- the greater of two, through their bits
-max-fits : (a b : ℤ) → SFits w64 a → SFits w64 b → SFits w64 (int_max a b)
-max-fits a b f g = go (lt_z b a)
+max_fits : (a b : ℤ) → SFits w64 a → SFits w64 b → SFits w64 (int_max a b)
+max_fits a b f g = go (lt_z b a)
   where
     go : (t : Bool) → SFits w64 (cond t a b)
     go true = f
@@ -28,15 +28,15 @@ max-fits a b f g = go (lt_z b a)
 pub max_bits : (a b r : ℤ) → SFits w64 a → SFits w64 b → r ≡ int_max (to_z w64 (of_z w64 a)) (to_z w64 (of_z w64 b)) → to_z w64 (of_z w64 r) ≡ int_max a b
 max_bits a b r f g e =
     let is : r ≡ int_max a b = e ∙ ap (λ z. int_max z (to_z w64 (of_z w64 b))) (to_z-of_z w64 a f) ∙ ap (int_max a) (to_z-of_z w64 b g) in
-    ap (λ z. to_z w64 (of_z w64 z)) is ∙ to_z-of_z w64 (int_max a b) (max-fits a b f g)
+    ap (λ z. to_z w64 (of_z w64 z)) is ∙ to_z-of_z w64 (int_max a b) (max_fits a b f g)
 
 -- a difference of two amounts, through their bits
 pub difference_bits : (a b r : ℤ) → (Small (to_z w64 (of_z w64 a)) → Small (to_z w64 (of_z w64 b)) → r ≡ to_z w64 (of_z w64 a) -ℤ to_z w64 (of_z w64 b)) → Small a → Small b → to_z w64 (of_z w64 r) ≡ a -ℤ b
 difference_bits a b r told p q =
-    let x = to_z-of_z w64 a (fits-within a (omega (arith, ints, p.least)) (omega (arith, ints, p.most))) in
-    let y = to_z-of_z w64 b (fits-within b (omega (arith, ints, q.least)) (omega (arith, ints, q.most))) in
+    let x = to_z-of_z w64 a (fits_within a (omega (arith, ints, p.least)) (omega (arith, ints, p.most))) in
+    let y = to_z-of_z w64 b (fits_within b (omega (arith, ints, q.least)) (omega (arith, ints, q.most))) in
     let is : r ≡ a -ℤ b = told (subst Small (sym x) p) (subst Small (sym y) q) ∙ ap (λ z. z -ℤ to_z w64 (of_z w64 b)) x ∙ ap (λ z. a -ℤ z) y in
-    ap (λ z. to_z w64 (of_z w64 z)) is ∙ to_z-of_z w64 (a -ℤ b) (fits-within (a -ℤ b) (omega (arith, ints, p.least, q.most)) (omega (arith, ints, p.most, q.least)))
+    ap (λ z. to_z w64 (of_z w64 z)) is ∙ to_z-of_z w64 (a -ℤ b) (fits_within (a -ℤ b) (omega (arith, ints, p.least, q.most)) (omega (arith, ints, p.most, q.least)))
 
 max_assoc : (a b c : ℤ) → int_max (int_max a b) c ≡ int_max a (int_max b c)
 max_assoc a b c = omega (arith, ints, clamps)
@@ -89,8 +89,8 @@ pub fell_none : (xs : List Entry) (most : Amounts) → row_of most ≡ none → 
 fell_none xs most e f = record { whole = ap (λ r. part_by_part int_max r (falls 3 (rows_of xs))) e ∙ none_left xs; each = f }
 
 -- one place more
-pub fell-more : (xs : List Entry) (i : ℕ) (x y : Entry) (most d more : Amounts) → Ranged xs → 1 ≤ i → i < length xs → x ≡ get_or xs (i - 1) x → y ≡ get_or xs i y → (Each Small x.amounts → Each Small y.amounts → row_of d ≡ part_by_part ◌-ℤ◌ (row_of x.amounts) (row_of y.amounts)) → row_of more ≡ part_by_part int_max (row_of most) (row_of d) → Fell xs i most → Fell xs (i + 1) more
-fell-more xs i x y most d more ranged some within at next told made was =
+pub fell_more : (xs : List Entry) (i : ℕ) (x y : Entry) (most d more : Amounts) → Ranged xs → 1 ≤ i → i < length xs → x ≡ get_or xs (i - 1) x → y ≡ get_or xs i y → (Each Small x.amounts → Each Small y.amounts → row_of d ≡ part_by_part ◌-ℤ◌ (row_of x.amounts) (row_of y.amounts)) → row_of more ≡ part_by_part int_max (row_of most) (row_of d) → Fell xs i most → Fell xs (i + 1) more
+fell_more xs i x y most d more ranged some within at next told made was =
     let small_x : Each Small x.amounts = subst (λ e. Each Small e.amounts) (sym at) (All-get_or (λ e. Each Small e.amounts) xs (i - 1) x (omega arith) ranged) in
     let small_y : Each Small y.amounts = subst (λ e. Each Small e.amounts) (sym next) (All-get_or (λ e. Each Small e.amounts) xs i y within ranged) in
     let d_is = told small_x small_y in

@@ -8,15 +8,15 @@ use Rattle.exploring.specs.declared.state.Answer.{Answer}
 use Rattle.exploring.specs.declared.state.Told.TheVariants.{Finished}
 use Rattle.exploring.specs.declared.state.Search.{Search as Straight}
 use Rattle.exploring.specs.Meaning.{planned, count_of, size_of, table_of, told_of, Ran, Same}
-use Rattle.exploring.proofs.Rooting.{same-sound}
+use Rattle.exploring.proofs.Rooting.{same_sound}
 use Rattle.crossing.specs.Ranks.{Rank, ranks, rank_row, rank_span, row_of}
 use Rattle.crossing.specs.Meaning.{Moderate, Keeps, rank_items, later, next_of}
 use Rattle.crossing.specs.declared.state.Course.{Course}
-use Rattle.crossing.proofs.Chains.{run_ends, run_passes, run-over, joined-next}
+use Rattle.crossing.proofs.Chains.{run_ends, run_passes, run-over, flat_map_next}
 
 -- what is moderate stays so from rank total to rank total
-pub moderate-next : (c : Course) → Moderate c → Moderate (next_of c)
-moderate-next c m = record { falls = m.falls; low = m.low; high = m.high; last = m.last }
+pub moderate_next : (c : Course) → Moderate c → Moderate (next_of c)
+moderate_next c m = record { falls = m.falls; low = m.low; high = m.high; last = m.last }
 
 -- the same items come later, over the same table
 pub later_same : (c : Course) (s t : Straight Rank) → Same s t → later (count_of t) (size_of t) (table_of t) c ≡ later (count_of s) (size_of s) (table_of s) c
@@ -30,7 +30,7 @@ passes_on c c' s t items low high e same h now l u =
     (now ∙ ap (λ x. planned ranks rank_row (count_of s) (size_of s) (table_of s) x high) l ∙ ap (planned ranks rank_row (count_of s) (size_of s) (table_of s) (shadow (row_of c'.falls) c'.rank (row_of c'.low))) u)
     ∙ ap (λ q. rank_items (count_of s) (size_of s) (table_of s) c' c'.rank ++ q) (later_same c' s t same)
     ∙ ap (λ d. rank_items (count_of s) (size_of s) (table_of s) d d.rank ++ later (count_of s) (size_of s) (table_of s) d) e
-    ∙ sym (joined-next (rank_items (count_of s) (size_of s) (table_of s) c) c.rank c.last h)
+    ∙ sym (flat_map_next (rank_items (count_of s) (size_of s) (table_of s) c) c.rank c.last h)
 
 -- one Search goes on, and then another
 pub same_on : {M : Type 0} (r s t : Straight M) → Same r s → Same s t → Same r t
@@ -46,7 +46,7 @@ beyond_on n m first page page' e p q = ap (λ k. drop k page') (sym e) ∙ p ∙
 
 -- what keeps goes on keeping, over the same table
 pub keeps_on : (c c' : Course) (s t : Straight Rank) → Same s t → Moderate c' → Keeps (record { straight = s; course = c }) → Keeps (record { straight = t; course = c' })
-keeps_on c c' s t same m k = record { holds = same-sound ranks rank_row rank_span s t same k.holds; moderate = m }
+keeps_on c c' s t same m k = record { holds = same_sound ranks rank_row rank_span s t same k.holds; moderate = m }
 
 page_over : (e : End) (page : List ℕ) → told_of e ≡ Finished → page_of e page ≡ page
 page_over (set ps) page h = let z : ◌≡◌ {A = ℕ} 0 1 = cc in absurd (omega arith)

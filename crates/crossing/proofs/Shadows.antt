@@ -27,23 +27,23 @@ exact amount fall rank more sum e f b h l =
     f ∙ ap (λ m. saturate_to_bits 63 (amount +ℤ m)) more_is
     ∙ within (amount +ℤ fall *ℤ pos rank) (omega (arith, ints, r.least, b.least)) (omega (arith, ints, r.most, b.most))
 
-pub fits-within : (z : ℤ) → negsuc 1999999999999999 ≤ℤ z → z ≤ℤ pos 2000000000000000 → SFits w64 z
-fits-within (pos n) a b = record { sfits = omega (arith, ints, b) }
-fits-within (negsuc n) a b = record { sfits = omega (arith, ints, a) }
+pub fits_within : (z : ℤ) → negsuc 1999999999999999 ≤ℤ z → z ≤ℤ pos 2000000000000000 → SFits w64 z
+fits_within (pos n) a b = record { sfits = omega (arith, ints, b) }
+fits_within (negsuc n) a b = record { sfits = omega (arith, ints, a) }
 
 -- the same of a call, whose arguments and result go through their bits
 pub column : (amount fall r : ℤ) (rank : ℕ) → (Bounded (to_z w64 (of_z w64 amount)) → Fallen (to_z w64 (of_z w64 fall)) → rank ≤ 7260 → r ≡ to_z w64 (of_z w64 amount) +ℤ to_z w64 (of_z w64 fall) *ℤ pos rank) → Bounded amount → Fallen fall → rank ≤ 7260 → to_z w64 (of_z w64 r) ≡ amount +ℤ fall *ℤ pos rank
 column amount fall r rank told b h l =
-    let a = to_z-of_z w64 amount (fits-within amount (omega (arith, ints, b.least)) (omega (arith, ints, b.most))) in
-    let f = to_z-of_z w64 fall (fits-within fall (omega (arith, ints, h.least)) (omega (arith, ints, h.most))) in
+    let a = to_z-of_z w64 amount (fits_within amount (omega (arith, ints, b.least)) (omega (arith, ints, b.most))) in
+    let f = to_z-of_z w64 fall (fits_within fall (omega (arith, ints, h.least)) (omega (arith, ints, h.most))) in
     let up = raise fall rank h l in
     let is : r ≡ amount +ℤ fall *ℤ pos rank = told (subst Bounded (sym a) b) (subst Fallen (sym f) h) l ∙ ap (λ z. z +ℤ to_z w64 (of_z w64 fall) *ℤ pos rank) a ∙ ap (λ z. amount +ℤ z *ℤ pos rank) f in
-    let whole = to_z-of_z w64 (amount +ℤ fall *ℤ pos rank) (fits-within (amount +ℤ fall *ℤ pos rank) (omega (arith, ints, up.least, b.least)) (omega (arith, ints, up.most, b.most))) in
+    let whole = to_z-of_z w64 (amount +ℤ fall *ℤ pos rank) (fits_within (amount +ℤ fall *ℤ pos rank) (omega (arith, ints, up.least, b.least)) (omega (arith, ints, up.most, b.most))) in
     ap (λ z. to_z w64 (of_z w64 z)) is ∙ whole
 
 -- a rank goes through its bits too
 pub rank_back : (z : ℤ) (rank : ℕ) → z ≡ pos rank → rank ≤ 7260 → to_z w64 (of_z w64 z) ≡ pos rank
-rank_back z rank e l = ap (λ q. to_z w64 (of_z w64 q)) e ∙ to_z-of_z w64 (pos rank) (fits-within (pos rank) (omega (arith, ints)) (omega (arith, ints)))
+rank_back z rank e l = ap (λ q. to_z w64 (of_z w64 q)) e ∙ to_z-of_z w64 (pos rank) (fits_within (pos rank) (omega (arith, ints)) (omega (arith, ints)))
 
 -- five numbers that are each equal
 pub five_same : {a b c d e a' b' c' d' e' : ℤ} → a ≡ a' → b ≡ b' → c ≡ c' → d ≡ d' → e ≡ e' → (a ∷ b ∷ c ∷ d ∷ e ∷ []) ≡ (a' ∷ b' ∷ c' ∷ d' ∷ e' ∷ [])

@@ -13,7 +13,7 @@ use Rattle.sets.specs.Crossed.{amounts, falls, shadow, shadows, least_total, gre
 use Rattle.squeezing.specs.Table.{offset, entries, fits}
 use Rattle.exploring.specs.declared.state.Search.{Search as Straight}
 use Rattle.exploring.specs.Meaning.{table_of, count_of, size_of, planned, Same}
-use Rattle.exploring.proofs.Rooting.{same-sound}
+use Rattle.exploring.proofs.Rooting.{same_sound}
 use Rattle.roll.specs.declared.straight.Entry.{Entry as Shadow}
 use Rattle.roll.specs.Totals.{Few}
 use Rattle.question.specs.declared.asking.Question.{Question as Asked}
@@ -49,8 +49,8 @@ end-small v a b e =
     (at v.second.second.second.first.value a.third (ap (cell 3) e) (span_bounded a.third b.third))
     (at v.second.second.second.second.value a.fourth (ap (cell 4) e) (span_bounded a.fourth b.fourth))
 
-band-fits : (low high : Rank) (l h : Amounts) → Band l h → rank_row low ≡ pos 0 ∷ row_of l → rank_row high ≡ pos 0 ∷ row_of h → band_fits ranks rank_row rank_span low high ≡ true
-band-fits low high l h b e f =
+band_accepted : (low high : Rank) (l h : Amounts) → Band l h → rank_row low ≡ pos 0 ∷ row_of l → rank_row high ≡ pos 0 ∷ row_of h → band_fits ranks rank_row rank_span low high ≡ true
+band_accepted low high l h b e f =
     let order : ranks.not_above (pos 0 ∷ row_of l) (pos 0 ∷ row_of h) ≡ true =
     and_from (le_z l.first h.first) _ (le_test l.first h.first b.first)
     (and_from (le_z l.second h.second) _ (le_test l.second h.second b.second)
@@ -62,7 +62,7 @@ band-fits low high l h b e f =
 accepted : (n room : ℕ) (q : Question) (low high : Rank) → Fits n q room → rank_row low ≡ pos 0 ∷ row_of q.low → rank_row high ≡ pos 0 ∷ row_of q.high → Plain.asking ranks rank_row rank_span n (paid q low high) room ≡ Ok tt
 accepted n room q low high f e g =
     cond-true _ _ _ (and_from (ltb 0 q.size) (leb q.size n) (lt-ltb 0 q.size (omega (arith, f.some))) (le-leb q.size n f.most))
-    ∙ cond-true _ _ _ (band-fits low high q.low q.high f.band e g)
+    ∙ cond-true _ _ _ (band_accepted low high q.low q.high f.band e g)
     ∙ cond-true _ _ _ (le-leb (table_size n q.size) room f.table)
 
 pub shadowed_over : (α : Row) (xs : List Entry) (ys : List (Shadow Rank)) (q : Question) (low high all : Rank) (was : List Rank) (s : Straight Rank) → Fits (length xs) q (length was) → length ys ≡ length xs → Casts α xs ys → rank_row low ≡ pos 0 ∷ row_of q.low → rank_row high ≡ pos 0 ∷ row_of q.high → Begins ranks rank_row rank_span ys all (paid q low high) was s → (Plain.asking ranks rank_row rank_span (length ys) (paid q low high) (length was) ≡ Ok tt → EndsAsAsked rank_row (length ys) (paid q low high) (table_of s)) → Shadowed α xs q was s
@@ -90,15 +90,15 @@ shadowed_on α β xs q was s t e same h =
       count = same.count_same ∙ h.count;
       size = same.size_same ∙ h.size;
       first = ap (entries rank_row n) same.table_same ∙ h.first ∙ ap (λ r. shadows r 1 (rows_of xs)) e;
-      holds = same-sound ranks rank_row rank_span s t same h.holds;
+      holds = same_sound ranks rank_row rank_span s t same h.holds;
       low = λ d. ap (λ l. rank_row (get_or l (offset n q.size) d)) same.table_same ∙ h.low d;
       high = λ d. ap (λ l. rank_row (get_or l (offset n q.size + 1) d)) same.table_same ∙ h.high d;
       kept = ap (drop (offset n q.size + 2)) same.table_same ∙ h.kept;
     }
 
 -- no rank total of m of 120 entries passes 7,260
-greatest-most : (n m : ℕ) → m ≤ n → n ≤ 120 → greatest_total n m ≤ 7260
-greatest-most n m l h =
+greatest_most : (n m : ℕ) → m ≤ n → n ≤ 120 → greatest_total n m ≤ 7260
+greatest_most n m l h =
     let k = 120 - m in
     let wide : m * (2 * n - m + 1) ≤ m * (121 + k) = mul-le-mul_left m (omega arith) in
     let less : m * k ≤ 120 * k = mul-le-mul_right k (omega arith) in
@@ -114,12 +114,12 @@ least-greatest n m l = let wide : m * (m + 1) ≤ m * (2 * n - m + 1) = mul-le-m
     half : (a b : ℕ) → a ≤ b → a / 2 ≤ b / 2
     half a b h = omega arith
 
-pub least-most : (n m : ℕ) → m ≤ n → n ≤ 120 → least_total m ≤ 7260
-least-most n m l h = omega (arith, least-greatest n m l, greatest-most n m l h)
+pub least_most : (n m : ℕ) → m ≤ n → n ≤ 120 → least_total m ≤ 7260
+least_most n m l h = omega (arith, least-greatest n m l, greatest_most n m l h)
 
 -- the course of an accepted question can be worked out
 pub moderate : (α : Amounts) (q : Question) (n room : ℕ) → Each Fallen α → Fits n q room → Moderate (course_of α q n q.size)
-moderate α q n room f h = record { falls = f; low = h.band.lows; high = h.band.highs; last = greatest-most n q.size h.most h.few }
+moderate α q n room f h = record { falls = f; low = h.band.lows; high = h.band.highs; last = greatest_most n q.size h.most h.few }
 
 fits_true : (n room : ℕ) (q : Question) (cells : ℕ) → Fits n q room → offset n q.size ≤ cells → fits n q.size cells ≡ true
 fits_true n room q cells f long =

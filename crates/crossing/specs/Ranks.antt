@@ -38,11 +38,6 @@ pub record Small (z : ℤ) : Type 0 where
   pub least : negsuc 99999999999 ≤ℤ z
   pub most : z ≤ℤ pos 100000000000
 
--- a difference of two amounts
-pub record Differs (z : ℤ) : Type 0 where
-  pub least : negsuc 199999999999 ≤ℤ z
-  pub most : z ≤ℤ pos 200000000000
-
 -- an amount, or an end of a band
 pub record Bounded (z : ℤ) : Type 0 where
   pub least : negsuc 19999999999999 ≤ℤ z

@@ -14,7 +14,7 @@ use Rattle.squeezing.specs.Frames.{space_of}
 use Rattle.exploring.specs.Waiting.{first_of, explore_of}
 use Rattle.squeezing.specs.Table.{fits}
 use Rattle.exploring.specs.Meaning.{table_of, count_of, size_of, Sound, planned, Same}
-use Rattle.squeezing.proofs.Columns.{offset-past, offset-zero}
+use Rattle.squeezing.proofs.Columns.{offset_past, offset-zero}
 use Rattle.squeezing.proofs.Sums.{entries-length}
 
 -- one place more is written down
@@ -26,9 +26,9 @@ written f xs j v h e before k l =
     (cases_eq k j)
 
 -- places above 0 stand within their list
-long-enough : (a m : ℕ) (xs : List ℕ) → 0 < a → ((k : ℕ) → k < m → get_or xs k 0 ≡ a + k) → m ≤ length xs
-long-enough a zero xs some each = omega arith
-long-enough a (suc m) xs some each =
+long_enough : (a m : ℕ) (xs : List ℕ) → 0 < a → ((k : ℕ) → k < m → get_or xs k 0 ≡ a + k) → m ≤ length xs
+long_enough a zero xs some each = omega arith
+long_enough a (suc m) xs some each =
     ⊎_elim
     (λ within. omega arith)
     (λ past. absurd (omega (arith, each m (omega arith), get_or_past xs m 0 past)))
@@ -36,7 +36,7 @@ long-enough a (suc m) xs some each =
 
 take_counting : (a m : ℕ) (xs : List ℕ) → 0 < a → ((k : ℕ) → k < m → get_or xs k 0 ≡ a + k) → take m xs ≡ range_with_len a m
 take_counting a m xs some each =
-    let many = length-take-le m xs (long-enough a m xs some each) in
+    let many = length-take-le m xs (long_enough a m xs some each) in
     ext_get_or 0 (take m xs) (range_with_len a m) (many ∙ sym (length-range_with_len a m)) (λ k l. let b : k < m = omega (arith, many) in get_or-take m xs k 0 b ∙ each k b ∙ sym (get_or-range_with_len a m k 0 b))
 
 -- what is to come where only the first space may wait
@@ -60,8 +60,8 @@ fitted n m cells some few small long =
     and_from (ltb 0 m) _ (lt-ltb 0 m some) (and_from (leb m n) _ (le-leb m n few) (and_from (leb n 120) (leb (offset n m) cells) (le-leb n 120 small) (le-leb (offset n m) cells long)))
 
 -- the columns lie in the table
-pub fits-long : (n m cells k l : ℕ) → k ≡ cond (fits n m cells) n 0 → l ≡ cond (fits n m cells) m 0 → offset k l ≤ cells
-fits-long n m cells k l ek el =
+pub fits_long : (n m cells k l : ℕ) → k ≡ cond (fits n m cells) n 0 → l ≡ cond (fits n m cells) m 0 → offset k l ≤ cells
+fits_long n m cells k l ek el =
     ⊎_elim
     (λ t. omega (arith, (fitting n m cells t).3, ap (λ q. offset q l) (ek ∙ cond-true (fits n m cells) n 0 t), ap (offset n) (el ∙ cond-true (fits n m cells) m 0 t)))
     (λ t. omega (arith, offset-zero k, ap (offset k) (el ∙ cond-false (fits n m cells) m 0 t)))
@@ -76,8 +76,8 @@ begun_sound a row span n m table k l ek el held =
     (cases_Bool (fits n m (length table)))
 
 -- and for one that goes on
-pub same-sound : {M : Type 0} (a : Algebra) (row : M → Row) (span : M → ℕ) (s s' : Search M) → Same s s' → Sound a row span s → Sound a row span s'
-same-sound a row span s s' e held =
+pub same_sound : {M : Type 0} (a : Algebra) (row : M → Row) (span : M → ℕ) (s s' : Search M) → Same s s' → Sound a row span s → Sound a row span s'
+same_sound a row span s s' e held =
     subst (λ t. Holds a row span (count_of s') (size_of s') t) (sym e.table_same)
     (subst (λ q. Holds a row span (count_of s') q (table_of s)) (sym e.size_same)
     (subst (λ q. Holds a row span q (size_of s) (table_of s)) (sym e.count_same) held))
@@ -86,7 +86,7 @@ module _ {M : Type 0} (a : Algebra) (row : M → Row) (table : List M) (low high
   first_fits : (n m : ℕ) → fits n m (length table) ≡ true → first_of (explore_of a row n table low high) n m ≡ planned a row n m table low high
   first_fits n m t =
       let f = fitting n m (length table) t in
-      let many : length (entries row n table) ≡ n = entries-length row n table (omega (arith, f.3, offset-past n m f.0)) in
+      let many : length (entries row n table) ≡ n = entries-length row n table (omega (arith, f.3, offset_past n m f.0)) in
       cond-true _ _ _ (lt-ltb 0 m f.0)
       ∙ ap (λ k. explore_of a row n table low high (m + 1) (space (range_with_len 1 m) (range_with_len (k - m + 1) m))) (sym many)
       ∙ sym (cond-true _ _ _ t)

@@ -9,7 +9,7 @@ use Rattle.sets.specs.Advance.{set, spent, run}
 use Rattle.squeezing.specs.Frames.{space_of}
 use Rattle.exploring.specs.Waiting.{stacked, level_items, to_come, Ready}
 use Rattle.exploring.proofs.Explored.{opened, examined}
-use Rattle.exploring.proofs.Stacking.{top_is, children-next, at_front}
+use Rattle.exploring.proofs.Stacking.{top_is, children_next, at_front}
 
 pub run_none : (all xs : Trace) (left left' steps : ℕ) → all ≡ None ∷ xs → left ≡ left' + 1 → run all left steps ≡ run xs left' (steps + 1)
 run_none all xs zero left' steps e h = absurd (omega arith)
@@ -25,31 +25,31 @@ run-set all xs ps (suc left) steps e h = ap (λ l. run l (suc left) steps) e
 abbrev pub More : Trace → Type 0
 More l = (x : Item) × (xs : Trace) × (l ≡ x ∷ xs)
 
-spent-at : (x : Item) (xs : Trace) (steps : ℕ) → run (x ∷ xs) 0 steps ≡ record { end = spent; steps = steps; rest = x ∷ xs }
-spent-at None xs steps = refl
-spent-at (Some ps) xs steps = refl
+spent_at : (x : Item) (xs : Trace) (steps : ℕ) → run (x ∷ xs) 0 steps ≡ record { end = spent; steps = steps; rest = x ∷ xs }
+spent_at None xs steps = refl
+spent_at (Some ps) xs steps = refl
 
-pub run-spent : (all : Trace) (left steps : ℕ) → More all → left ≡ 0 → run all left steps ≡ record { end = spent; steps = steps; rest = all }
-run-spent all left steps more none =
+pub run_spent : (all : Trace) (left steps : ℕ) → More all → left ≡ 0 → run all left steps ≡ record { end = spent; steps = steps; rest = all }
+run_spent all left steps more none =
     let x = more.0 in
     let xs = more.1 in
     let e = more.2 in
-    ap (λ k. run all k steps) none ∙ ap (λ l. run l 0 steps) e ∙ spent-at x xs steps ∙ ap (λ l. record { end = spent; steps = steps; rest = l }) (sym e)
+    ap (λ k. run all k steps) none ∙ ap (λ l. run l 0 steps) e ∙ spent_at x xs steps ∙ ap (λ l. record { end = spent; steps = steps; rest = l }) (sym e)
 
-more-append : (l r : Trace) → More l → More (l ++ r)
-more-append l r more = (more.0, more.1 ++ r, ap (λ q. q ++ r) more.2)
+more_append : (l r : Trace) → More l → More (l ++ r)
+more_append l r more = (more.0, more.1 ++ r, ap (λ q. q ++ r) more.2)
 
 module _ (a : Algebra) (xs : List Row) (low high : Row) where
-  opened-more : (d : ℕ) (t : Space) (o : Option ℕ) → More (opened a xs low high d t o)
-  opened-more d t None = (Some t.lo, [], refl)
-  opened-more d t (Some i) = (None, _, refl)
+  opened_more : (d : ℕ) (t : Space) (o : Option ℕ) → More (opened a xs low high d t o)
+  opened_more d t None = (Some t.lo, [], refl)
+  opened_more d t (Some i) = (None, _, refl)
 
-  examined-more : (d : ℕ) (o : Option Space) → More (examined a xs low high d o)
-  examined-more d None = (None, [], refl)
-  examined-more d (Some t) = opened-more d t (open_at 1 t.lo t.hi)
+  examined_more : (d : ℕ) (o : Option Space) → More (examined a xs low high d o)
+  examined_more d None = (None, [], refl)
+  examined_more d (Some t) = opened_more d t (open_at 1 t.lo t.hi)
 
-  explore-more : (d k : ℕ) (s : Space) → k ≡ suc d → More (explore a xs low high k s)
-  explore-more d k s e = subst (λ q. More (explore a xs low high q s)) (sym e) (examined-more d (squeeze a xs low high (widths s.lo s.hi) s))
+  explore_more : (d k : ℕ) (s : Space) → k ≡ suc d → More (explore a xs low high k s)
+  explore_more d k s e = subst (λ q. More (explore a xs low high q s)) (sym e) (examined_more d (squeeze a xs low high (widths s.lo s.hi) s))
 
   first_level : (ls : List Level) → 0 < length ls → Level
   first_level [] h = absurd (omega arith)
@@ -58,7 +58,7 @@ module _ (a : Algebra) (xs : List Row) (low high : Row) where
   ready_go : (f : Frontier) (fresh : Bool) → f.fresh ≡ fresh → Ready f → More (to_come (explore a xs low high) f)
   ready_go f true e ready =
       let E = explore a xs low high in
-      let whole = more-append (E (f.root.m + 1) (space_of f.root)) (stacked (level_items E) f.root.m (take f.depth f.levels)) (explore-more f.root.m (f.root.m + 1) (space_of f.root) (omega arith)) in
+      let whole = more_append (E (f.root.m + 1) (space_of f.root)) (stacked (level_items E) f.root.m (take f.depth f.levels)) (explore_more f.root.m (f.root.m + 1) (space_of f.root) (omega arith)) in
       subst (λ b. More (cond b (E (f.root.m + 1) (space_of f.root)) [] ++ stacked (level_items E) f.root.m (take f.depth f.levels))) (sym e) whole
   ready_go f false e ready =
       let E = explore a xs low high in
@@ -70,9 +70,9 @@ module _ (a : Algebra) (xs : List Row) (low high : Row) where
       let within : l.next ≤ at t.hi (l.at + 1) = omega (arith, some.1 x, at_front l.frame.m l.frame.hi l.at l.within) in
       let top : stacked (level_items E) f.root.m (take f.depth f.levels) ≡ children (E k) t (l.at + 1) l.next ++ stacked (level_items E) f.root.m (take (f.depth - 1) f.levels) =
       top_is (level_items E) f.root.m f.depth f.levels x some.0 (omega (arith, f.full, f.deep, f.root.small)) in
-      let head = children-next E k t (l.at + 1) l.next within in
-      let one = more-append (E k (child t (l.at + 1) l.next)) (children (E k) t (l.at + 1) (l.next + 1)) (explore-more (f.root.m - f.depth) k (child t (l.at + 1) l.next) (omega (arith, some.0, f.deep))) in
-      let whole = more-append (children (E k) t (l.at + 1) l.next) (stacked (level_items E) f.root.m (take (f.depth - 1) f.levels)) (subst (λ q. More q) (sym head) one) in
+      let head = children_next E k t (l.at + 1) l.next within in
+      let one = more_append (E k (child t (l.at + 1) l.next)) (children (E k) t (l.at + 1) (l.next + 1)) (explore_more (f.root.m - f.depth) k (child t (l.at + 1) l.next) (omega (arith, some.0, f.deep))) in
+      let whole = more_append (children (E k) t (l.at + 1) l.next) (stacked (level_items E) f.root.m (take (f.depth - 1) f.levels)) (subst (λ q. More q) (sym head) one) in
       let all = subst (λ q. More q) (sym top) whole in
       subst (λ b. More (cond b (E (f.root.m + 1) (space_of f.root)) [] ++ stacked (level_items E) f.root.m (take f.depth f.levels))) (sym e) all
 

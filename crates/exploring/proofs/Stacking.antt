@@ -37,13 +37,13 @@ top_set f m depth levels l h b =
     ap (λ k. stacked f m (take k (set levels (depth - 1) l))) next ∙ grown f m (depth - 1) levels l (omega arith)
 
 module _ (e : ℕ → Space → Trace) (d : ℕ) (t : Space) (i : ℕ) where
-  from-many : (v k : ℕ) → concat_map (λ w. e d (child t i w)) (range_with_len v (suc k)) ≡ e d (child t i v) ++ concat_map (λ w. e d (child t i w)) (range_with_len (v + 1) k)
-  from-many v k = refl
+  from_many : (v k : ℕ) → concat_map (λ w. e d (child t i w)) (range_with_len v (suc k)) ≡ e d (child t i v) ++ concat_map (λ w. e d (child t i w)) (range_with_len (v + 1) k)
+  from_many v k = refl
 
-  pub children-next : (v : ℕ) → v ≤ at t.hi i → children (e d) t i v ≡ e d (child t i v) ++ children (e d) t i (v + 1)
-  children-next v h =
+  pub children_next : (v : ℕ) → v ≤ at t.hi i → children (e d) t i v ≡ e d (child t i v) ++ children (e d) t i (v + 1)
+  children_next v h =
       let many : at t.hi i + 1 - v ≡ suc (at t.hi i + 1 - (v + 1)) = omega arith in
-      ap (λ k. concat_map (λ w. e d (child t i w)) (range_with_len v k)) many ∙ from-many v (at t.hi i + 1 - (v + 1))
+      ap (λ k. concat_map (λ w. e d (child t i w)) (range_with_len v k)) many ∙ from_many v (at t.hi i + 1 - (v + 1))
 
   pub children_none : (v : ℕ) → at t.hi i < v → children (e d) t i v ≡ []
   children_none v h =

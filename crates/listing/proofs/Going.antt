@@ -14,9 +14,9 @@ use Rattle.records.specs.Bytes.{asked_of}
 use Rattle.records.specs.declared.reader.Reader.{Reader}
 use Rattle.records.specs.declared.reader.Record.{Record}
 use Rattle.records.specs.Records.{Rec, heading, entering, striking, question, fault_of, size_of, parsed, located, some, next_of, moved, told, Behind, ReadNext}
-use Rattle.records.proofs.Nexts.{next-at}
+use Rattle.records.proofs.Nexts.{next_at}
 use Rattle.rollfile.specs.Files.{then, headed, opened}
-use Rattle.rollfile.proofs.Runs.{parsed-fits, next_none, first-behind}
+use Rattle.rollfile.proofs.Runs.{parsed_fits, next_none, first_behind}
 use Rattle.listing.specs.Listing.{question_in, is_question, faulted, record_lines, question_lines, asked_so_far, before, tried, lines, lines_of, fault_in}
 
 module _ (d : Columns) (room table : ℕ) where
@@ -39,7 +39,7 @@ module _ (d : Columns) (room table : ℕ) where
   lines_more bs xs k at positive short h =
       ap (λ l. lines d room table l xs k 0 at) (drop_more bs at 0 h)
       ∙ go (parsed false (get_or bs at 0) (drop (at + 1) bs)) refl
-      ∙ sym (ap (continues bs xs k at) (next-at bs at short h ∙ ap (λ b. some (located at (parsed b (get_or bs at 0) (drop (at + 1) bs)))) (ne_eqb at 0 (omega arith))))
+      ∙ sym (ap (continues bs xs k at) (next_at bs at short h ∙ ap (λ b. some (located at (parsed b (get_or bs at 0) (drop (at + 1) bs)))) (ne_eqb at 0 (omega arith))))
     where
       goes : (r : Rec) (x : Result (List Entry) Fault) → size_of (get_or bs at 0) ≤ length (drop (at + 1) bs) → then x (λ ys. before (record_lines k xs r) (lines d room table (drop (at + 1) bs) ys (asked_so_far k r) (size_of (get_or bs at 0)) (at + 1))) ≡ then x (λ ys. before (record_lines k xs r) (lines d room table (drop (at + 1 + size_of (get_or bs at 0)) bs) ys (asked_so_far k r) 0 (at + 1 + size_of (get_or bs at 0))))
       goes r (Err f) l = refl
@@ -47,7 +47,7 @@ module _ (d : Columns) (room table : ℕ) where
 
       go : (p : Result Rec Refusal) → parsed false (get_or bs at 0) (drop (at + 1) bs) ≡ p → then (located at p) (λ r. then (faulted (is_question r) at (tried d room table xs r)) (λ ys. before (record_lines k xs r) (lines d room table (drop (at + 1) bs) ys (asked_so_far k r) (size_of (get_or bs at 0)) (at + 1)))) ≡ continues bs xs k at (some (located at p))
       go (Err f) e = refl
-      go (Ok r) e = goes r (faulted (is_question r) at (tried d room table xs r)) (parsed-fits false (get_or bs at 0) (drop (at + 1) bs) r e)
+      go (Ok r) e = goes r (faulted (is_question r) at (tried d room table xs r)) (parsed_fits false (get_or bs at 0) (drop (at + 1) bs) r e)
 
   lines_step : (bs : List ℕ) (xs : List Entry) (k at : ℕ) → 0 < at → length bs ≤ 65536 → lines d room table (drop at bs) xs k 0 at ≡ continues bs xs k at (next_of bs at)
   lines_step bs xs k at positive short =
@@ -126,13 +126,13 @@ asks_none k xs (striking b) e = (refl, refl)
 asks_none k xs (question b) e = let z : ◌≡◌ {A = ℕ} 0 1 = cc in absurd (omega arith)
 
 -- a file that says its columns has a first record, and the reader stands behind it
-behind-first : (bs : List ℕ) (d : Columns) (is : Reader) (r : Result (Option Rec) Fault) → Ok d ≡ opened bs → r ≡ next_of bs 0 → is.place ≡ moved bs 0 r → is.bytes.now ≡ bs → Behind is × (is.place ≡ 2)
-behind-first bs d is (Err f) e q at file = let z : ◌≡◌ {A = ℕ} 0 1 = cc (e ∙ ap (λ x. then x headed) (sym q)) in absurd (omega arith)
-behind-first bs d is (Ok o) e q at file = first-behind bs is o (sym q) at file
+behind_first : (bs : List ℕ) (d : Columns) (is : Reader) (r : Result (Option Rec) Fault) → Ok d ≡ opened bs → r ≡ next_of bs 0 → is.place ≡ moved bs 0 r → is.bytes.now ≡ bs → Behind is × (is.place ≡ 2)
+behind_first bs d is (Err f) e q at file = let z : ◌≡◌ {A = ℕ} 0 1 = cc (e ∙ ap (λ x. then x headed) (sym q)) in absurd (omega arith)
+behind_first bs d is (Ok o) e q at file = first_behind bs is o (sym q) at file
 
-pub behind-heading : (bs : List ℕ) (d : Columns) (was is : Reader) (r : Result (Option Record) Fault) → Ok d ≡ opened bs → was.bytes.now ≡ bs → was.place ≡ 0 → ReadNext was r is → Behind is × (is.place ≡ 2)
-behind-heading bs d was is r e file start next =
-    behind-first bs d is (told r) e (next.answer ∙ ap (λ b. next_of b was.place) file ∙ ap (next_of bs) start)
+pub behind_heading : (bs : List ℕ) (d : Columns) (was is : Reader) (r : Result (Option Record) Fault) → Ok d ≡ opened bs → was.bytes.now ≡ bs → was.place ≡ 0 → ReadNext was r is → Behind is × (is.place ≡ 2)
+behind_heading bs d was is r e file start next =
+    behind_first bs d is (told r) e (next.answer ∙ ap (λ b. next_of b was.place) file ∙ ap (next_of bs) start)
     (next.place ∙ ap (λ b. moved b was.place (told r)) file ∙ ap (λ n. moved bs n (told r)) start) (next.file ∙ file)
 
 -- what a file gives, by its columns

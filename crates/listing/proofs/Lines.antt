@@ -24,10 +24,10 @@ numbers_more xs ps ns i p v here room at is was =
     ∙ ap (map f) (sym (take_more ps i 0 here))
 
 -- the number of the entry at an index, and 0 past the last
-pub number-within : (xs : List Entry) (k : ℕ) → k < length xs → (get_or xs k zero_entry).number ≡ get_or (map (λ e. e.number) xs) k 0
-number-within [] k h = absurd (omega arith)
-number-within (x ∷ xs) zero h = refl
-number-within (x ∷ xs) (suc k) h = number-within xs k (omega arith)
+pub number_within : (xs : List Entry) (k : ℕ) → k < length xs → (get_or xs k zero_entry).number ≡ get_or (map (λ e. e.number) xs) k 0
+number_within [] k h = absurd (omega arith)
+number_within (x ∷ xs) zero h = refl
+number_within (x ∷ xs) (suc k) h = number_within xs k (omega arith)
 
 pub number_past : (xs : List Entry) (k : ℕ) → length xs ≤ k → 0 ≡ get_or (map (λ e. e.number) xs) k 0
 number_past xs k h = sym (get_or_past (map (λ e. e.number) xs) k 0 (omega (arith, length-map xs (λ e. e.number))))
@@ -81,16 +81,16 @@ run_holds P (Some ps ∷ t) (suc left) k h = h
 
 -- what an advance tells of the lines that are left
 module _ (xs : List Entry) (t : Trace) (left : ℕ) (a : Answer) (page page' : List ℕ) (rest : Trace) (ran : Ran (run t left 0) a page page' rest) where
-  pub lines-spent : a.told ≡ Spent → lines_within left xs t ≡ line 80 []
-  lines-spent h = ran_lines xs t left ∙ go (run t left 0).end (sym ran.told ∙ h)
+  pub lines_spent : a.told ≡ Spent → lines_within left xs t ≡ line 80 []
+  lines_spent h = ran_lines xs t left ∙ go (run t left 0).end (sym ran.told ∙ h)
     where
       go : (e : End) → told_of e ≡ Spent → follows left xs e (run t left 0).steps (run t left 0).rest ≡ line 80 []
       go (set_end ps) q = let z : ◌≡◌ {A = ℕ} 0 1 = cc in absurd (omega arith)
       go spent q = refl
       go finished q = let z : ◌≡◌ {A = ℕ} 0 1 = cc in absurd (omega arith)
 
-  pub lines-finished : a.told ≡ Finished → lines_within left xs t ≡ line 70 []
-  lines-finished h = ran_lines xs t left ∙ go (run t left 0).end (sym ran.told ∙ h)
+  pub lines_finished : a.told ≡ Finished → lines_within left xs t ≡ line 70 []
+  lines_finished h = ran_lines xs t left ∙ go (run t left 0).end (sym ran.told ∙ h)
     where
       go : (e : End) → told_of e ≡ Finished → follows left xs e (run t left 0).steps (run t left 0).rest ≡ line 70 []
       go (set_end ps) q = let z : ◌≡◌ {A = ℕ} 0 1 = cc in absurd (omega arith)

@@ -33,9 +33,9 @@ puts_short out o o' at xs ys p = omega (arith, length-append xs ys)
 pub puts_none : (out : List ℕ) (at : ℕ) → at ≤ length out → Puts out at [] (Some at) out
 puts_none out at h = (let z : at ≡ at + 0 = omega arith in z, h, sym (take-append-drop at out) ∙ ap (λ n. take at out ++ drop n out) (let z : at ≡ at + 0 = omega arith in z))
 
-joined-append : (xs ys : List ℕ) → flat_map field (xs ++ ys) ≡ flat_map field xs ++ flat_map field ys
-joined-append [] ys = refl
-joined-append (x ∷ xs) ys = ap (λ t. field x ++ t) (joined-append xs ys) ∙ sym (append_assoc (field x) (flat_map field xs) (flat_map field ys))
+flat_map-append : (xs ys : List ℕ) → flat_map field (xs ++ ys) ≡ flat_map field xs ++ flat_map field ys
+flat_map-append [] ys = refl
+flat_map-append (x ∷ xs) ys = ap (λ t. field x ++ t) (flat_map-append xs ys) ∙ sym (append_assoc (field x) (flat_map field xs) (flat_map field ys))
 
 module _ (out o o' : List ℕ) (at n : ℕ) (xs : List ℕ) (i x : ℕ) (within : i < length xs) (read : x ≡ get_or xs i 0) where
   more : flat_map field (take i xs) ++ field x ≡ flat_map field (take (i + 1) xs)
@@ -48,7 +48,7 @@ module _ (out o o' : List ℕ) (at n : ℕ) (xs : List ℕ) (i x : ℕ) (within 
   -- one that does not fit: nor do all of them
   pub puts_cut : Puts out at (flat_map field (take i xs)) (Some n) o → Puts o n (field x) None o' → Puts out at (flat_map field xs) None o'
   puts_cut p q =
-      let whole : flat_map field (take (i + 1) xs) ++ flat_map field (drop (i + 1) xs) ≡ flat_map field xs = sym (joined-append (take (i + 1) xs) (drop (i + 1) xs)) ∙ ap (flat_map field) (take-append-drop (i + 1) xs) in
+      let whole : flat_map field (take (i + 1) xs) ++ flat_map field (drop (i + 1) xs) ≡ flat_map field xs = sym (flat_map-append (take (i + 1) xs) (drop (i + 1) xs)) ∙ ap (flat_map field) (take-append-drop (i + 1) xs) in
       let short : Puts out at (flat_map field (take (i + 1) xs)) None o' = subst (λ bs. Puts out at bs None o') more (puts_then out o o' at n (flat_map field (take i xs)) (field x) None p q) in
       subst (λ bs. Puts out at bs None o') whole (puts_short out o' o' at (flat_map field (take (i + 1) xs)) (flat_map field (drop (i + 1) xs)) short)
 
@@ -84,14 +84,14 @@ fits_whole out after text n p =
     let room = le-ltb (length out) (length text) (omega (arith, p.0, p.1)) in
     (ap Ok (omega (arith, p.0)) ∙ sym (cond-false _ _ _ room), p.2 ∙ sym (cond-false _ _ _ room))
 
-pub short-whole : (out after text : List ℕ) → Puts out 0 text None after → (Err TooLong ≡ written out text) × (replicate (length out) 0 ≡ output_after out text)
-short-whole out after text p =
+pub short_whole : (out after text : List ℕ) → Puts out 0 text None after → (Err TooLong ≡ written out text) × (replicate (length out) 0 ≡ output_after out text)
+short_whole out after text p =
     let short = lt-ltb (length out) (length text) (omega arith) in
     (sym (cond-true _ _ _ short), sym (cond-true _ _ _ short))
 
 -- what is told is within the output, or the one refusal
-pub written-within : (out text : List ℕ) (n : ℕ) → Ok n ≡ written out text → n ≤ length out
-written-within out text n e = grind (arith, nat_tests)
+pub written_within : (out text : List ℕ) (n : ℕ) → Ok n ≡ written out text → n ≤ length out
+written_within out text n e = grind (arith, nat_tests)
 
 pub written_refusal : (out text : List ℕ) (r : Refusal) → Err r ≡ written out text → r ≡ TooLong
 written_refusal out text r e = go (ltb (length out) (length text)) e

@@ -133,7 +133,7 @@ fn put_questions(
     ensures writes { Writes out.old 0 result out.new }
 {
     match heading(file) {
-        Err(_) => None,
+        Err(_) => Some(0),
         Ok(columns) => {
             let mut roll = open(cells, columns);
             let mut reader = Reader::new(file);

@@ -22,9 +22,9 @@ sought_some : (side : Side) (n l : ℕ) → size_fits side n l ≡ true → 1 �
 sought_some Paid n l h = let p = and_parts (ltb 0 l) (leb l n) h in ltb-true 0 l p.0
 sought_some Left n l h = let p = and_parts (ltb 0 l) (ltb l n) h in omega (arith, ltb-true l n p.1)
 
-sought-most : (side : Side) (n l : ℕ) → size_fits side n l ≡ true → sought side n l ≤ n
-sought-most Paid n l h = let p = and_parts (ltb 0 l) (leb l n) h in leb-true l n p.1
-sought-most Left n l h = omega arith
+sought_most : (side : Side) (n l : ℕ) → size_fits side n l ≡ true → sought side n l ≤ n
+sought_most Paid n l h = let p = and_parts (ltb 0 l) (leb l n) h in leb-true l n p.1
+sought_most Left n l h = omega arith
 
 -- what an accepted question with a table of so many values is known to be
 pub record Accepted {M : Type 0} (span : M → ℕ) (n : ℕ) (q : Question M) (cells : ℕ) : Type 0 where
@@ -42,7 +42,7 @@ accepted a row span n q cells h =
     let ends = and_parts _ _ (and_parts (a.not_above (row q.low) (row q.high)) _ banded.0).1 in
     record {
       some = sought_some q.side n q.size sized.0;
-      most = sought-most q.side n q.size sized.0;
+      most = sought_most q.side n q.size sized.0;
       low = leb-true (span q.low) 1 ends.0;
       high = leb-true (span q.high) 1 ends.1;
       room = leb-true _ cells roomy.0;

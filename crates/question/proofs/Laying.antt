@@ -11,22 +11,22 @@ use Rattle.roll.specs.declared.straight.Entry.{Entry}
 use Rattle.roll.specs.Totals.{Few, rows_of}
 use Rattle.squeezing.specs.Table.{Stood, Holds, entries, offset}
 use Rattle.question.specs.Filling.{Laid, values}
-use Rattle.squeezing.proofs.Columns.{offset-zero, offset-next, offset_up, offset_fewer}
-use Rattle.squeezing.proofs.Sums.{each-own, inside_counting, total-append}
+use Rattle.squeezing.proofs.Columns.{offset-zero, offset_next, offset_up, offset_fewer}
+use Rattle.squeezing.proofs.Sums.{each_own, inside_counting, total-append}
 
 -- a column ends where the next begins
-pub cell-before : (n k j p : ℕ) → p + k < n → k < j → offset n k + p < offset n j
-cell-before n k j p h l =
+pub cell_before : (n k j p : ℕ) → p + k < n → k < j → offset n k + p < offset n j
+cell_before n k j p h l =
     let e : (k + 1) + (j - (k + 1)) ≡ j = omega arith in
-    omega (arith, offset-next n k, offset_up n (k + 1) (j - (k + 1)), ap (offset n) e)
+    omega (arith, offset_next n k, offset_up n (k + 1) (j - (k + 1)), ap (offset n) e)
 
 -- no two totals have one cell
-cell-one : (n k p j q : ℕ) → p + k < n → q + j < n → offset n k + p ≡ offset n j + q → (k ≡ j) × (p ≡ q)
-cell-one n k p j q h l e =
+cell_one : (n k p j q : ℕ) → p + k < n → q + j < n → offset n k + p ≡ offset n j + q → (k ≡ j) × (p ≡ q)
+cell_one n k p j q h l e =
     ⊎_elim
-    (λ less. absurd (omega (arith, cell-before n k j p h less)))
+    (λ less. absurd (omega (arith, cell_before n k j p h less)))
     (λ more. ⊎_elim
-    (λ less. absurd (omega (arith, cell-before n j k q l less)))
+    (λ less. absurd (omega (arith, cell_before n j k q l less)))
     (λ other. let same : k ≡ j = omega arith in (same, omega (arith, ap (offset n) same)))
     (cases_lt j k))
     (cases_lt k j)
@@ -45,7 +45,7 @@ module _ {M : Type 0} (a : Algebra) (row : M → Row) (span : M → ℕ) (xs : L
   laid_more k p r h within laid here j q d l w =
       ⊎_elim
       (λ same.
-      let one = cell-one n j q k p l h same in
+      let one = cell_one n j q k p l h same in
       let e : get_or (set table (offset n k + p) r) (offset n j + q) d ≡ r = ap (λ c. get_or (set table (offset n k + p) r) c d) same ∙ get_or-set_same table (offset n k + p) r d within in
       subst (λ x. Stood a row span xs (range_with_len (q + 1) (j + 1)) x) (sym e)
       (subst (λ t. Stood a row span xs (range_with_len (q + 1) (t + 1)) r) (sym one.0)
@@ -76,14 +76,14 @@ module _ {M : Type 0} (a : Algebra) (laws : Laws a) (row : M → Row) (span : M 
       }
 
   -- a total of k neighbours and the value of the entry after them
-  pub next-stands : (p k : ℕ) (x r : M) (d : Entry M) → p + k < length es → Stood a row span (rows_of row es) (range_with_len (p + 1) k) x → (span x + span (get_or es (p + k) d).value ≤ 240 → row r ≡ a.plus (row x) (row (get_or es (p + k) d).value)) → (span x + span (get_or es (p + k) d).value ≤ 240 → span r ≤ span x + span (get_or es (p + k) d).value) → Stood a row span (rows_of row es) (range_with_len (p + 1) (k + 1)) r
-  next-stands p k x r d h sx exact small =
+  pub next_stands : (p k : ℕ) (x r : M) (d : Entry M) → p + k < length es → Stood a row span (rows_of row es) (range_with_len (p + 1) k) x → (span x + span (get_or es (p + k) d).value ≤ 240 → row r ≡ a.plus (row x) (row (get_or es (p + k) d).value)) → (span x + span (get_or es (p + k) d).value ≤ 240 → span r ≤ span x + span (get_or es (p + k) d).value) → Stood a row span (rows_of row es) (range_with_len (p + 1) (k + 1)) r
+  next_stands p k x r d h sx exact small =
       let many : length (rows_of row es) ≡ length es = length-map es (λ e. row e.value) in
       let e : p + k + 1 ≡ p + 1 + k = omega arith in
       let sy = subst (λ q. Stood a row span (rows_of row es) (range_with_len q 1) (get_or es (p + k) d).value) e (entry_stands (p + k) d h) in
       let counted = length-range_with_len (p + 1) k in
       let fits : span x + span (get_or es (p + k) d).value ≤ 240 = omega (arith, sx.span_le, sy.span_le, few.count) in
-      let both = total-append a laws (rows_of row es) (λ q u v. each-own a (λ e. row e.value) (λ e. own e.value) es (q - 1) (omega arith)) (range_with_len (p + 1) k) (range_with_len (p + 1 + k) 1)
+      let both = total-append a laws (rows_of row es) (λ q u v. each_own a (λ e. row e.value) (λ e. own e.value) es (q - 1) (omega arith)) (range_with_len (p + 1) k) (range_with_len (p + 1 + k) 1)
       (inside_counting (length (rows_of row es)) (p + 1) k (omega arith) (omega arith))
       (inside_counting (length (rows_of row es)) (p + 1 + k) 1 (omega arith) (omega arith)) in
       record {
@@ -116,7 +116,7 @@ entries_are row es table first = ap (map row) first ∙ rows_are row es
 pub laid_holds : {M : Type 0} (a : Algebra) (row : M → Row) (span : M → ℕ) (es : List (Entry M)) (m : ℕ) (table : List M) → length es ≤ length table → take (length es) table ≡ values es → Laid a row span (rows_of row es) (length es) table (offset (length es) m) → Holds a row span (length es) m table
 laid_holds a row span es m table enough first laid = record {
   enough = enough;
-  holds = λ k p d h few. subst (λ l. Stood a row span l (range_with_len (p + 1) (k + 1)) (get_or table (offset (length es) k + p) d)) (sym (entries_are row es table first)) (laid k p d h (cell-before (length es) k m p h few));
+  holds = λ k p d h few. subst (λ l. Stood a row span l (range_with_len (p + 1) (k + 1)) (get_or table (offset (length es) k + p) d)) (sym (entries_are row es table first)) (laid k p d h (cell_before (length es) k m p h few));
 }
 
 -- a write behind the columns leaves them
@@ -124,7 +124,7 @@ pub holds-set : {M : Type 0} (a : Algebra) (row : M → Row) (span : M → ℕ) 
 holds-set a row span n m i x table past behind held = record {
   enough = omega (arith, held.enough, length-set table i x);
   holds = λ k p d h few.
-      let cell = cell-before n k m p h few in
+      let cell = cell_before n k m p h few in
       subst (λ t. Stood a row span (map row t) (range_with_len (p + 1) (k + 1)) (get_or (set table i x) (offset n k + p) d)) (sym (take-set-le n table i x past))
       (subst (λ y. Stood a row span (entries row n table) (range_with_len (p + 1) (k + 1)) y) (sym (get_or-set_other table i (offset n k + p) x d (λ e. omega (arith, cell)))) (held.holds k p d h few));
 }

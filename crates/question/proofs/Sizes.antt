@@ -5,8 +5,8 @@ use Rattle.squeezing.specs.Table.{offset}
 use Rattle.squeezing.proofs.Columns.{offset_is}
 
 -- the columns, then two ends
-pub table-size_is : (n m : ℕ) → m ≤ n → table_size n m ≡ offset n m + 2
-table-size_is n m h =
+pub table_size_is : (n m : ℕ) → m ≤ n → table_size n m ≡ offset n m + 2
+table_size_is n m h =
     let e : 2 * n - m + 1 ≡ 2 * n + 1 - m = omega arith in
     ap (λ k. m * k / 2 + 2) e ∙ ap (λ k. k + 2) (offset_is n m h)
 

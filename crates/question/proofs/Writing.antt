@@ -10,14 +10,14 @@ use Rattle.question.specs.Asking.{Needed, sought, end}
 use Rattle.question.specs.Filling.{values, ends_at, Written, EndsAsAsked}
 use Rattle.squeezing.specs.Table.{Holds}
 use Rattle.question.proofs.Asked.{Accepted, needed, end_paid, end_is}
-use Rattle.squeezing.proofs.Columns.{offset-past}
+use Rattle.squeezing.proofs.Columns.{offset_past}
 use Rattle.question.proofs.Agreeing.{back_kept}
 use Rattle.question.proofs.Laying.{entries_are, holds-set}
-use Rattle.question.proofs.Sizes.{table-size_is}
+use Rattle.question.proofs.Sizes.{table_size_is}
 
 -- the columns and the ends of an accepted question have room
 pub ends_fit : {M : Type 0} (span : M → ℕ) (n : ℕ) (q : Question M) (cells : ℕ) → Accepted span n q cells → ends_at n q + 2 ≤ cells
-ends_fit span n q cells ok = omega (arith, ok.room, table-size_is n (sought q.side n q.size) ok.most)
+ends_fit span n q cells ok = omega (arith, ok.room, table_size_is n (sought q.side n q.size) ok.most)
 
 module _ {M : Type 0} (a : Algebra) (row : M → Row) (span : M → ℕ) (xs : List (Entry M)) (all : M) (q : Question M) (was filled : List M) (at : ℕ) (low high : M) where
   abbrev both : List M
@@ -53,7 +53,7 @@ module _ {M : Type 0} (a : Algebra) (row : M → Row) (span : M → ℕ) (xs : L
       Written a row span xs all q was both
   written ok at_is size first held kept low_is high_is =
       let room = ends_fit span (length xs) q (length was) ok in
-      let past : length xs ≤ at = omega (arith, offset-past (length xs) (sought q.side (length xs) q.size) ok.some) in
+      let past : length xs ≤ at = omega (arith, offset_past (length xs) (sought q.side (length xs) q.size) ok.some) in
       let longer = length-set filled at low in
       let m = sought q.side (length xs) q.size in
       record {

@@ -8,7 +8,7 @@ use Rattle.std.proofs.lemmas.Bool.Decides.{nat_tests}
 use Rattle.roll.specs.Order.{Kind, before, numbered, comparable, put, without, seat, place}
 use Rattle.roll.specs.Standing.{entering, entered, striking, at}
 use Rattle.roll.specs.declared.refusal.Refusal.TheVariants.{NumberTaken, RollFull, Incomparable, NumberUnknown}
-use Rattle.roll.proofs.Firsts.{numbered_is, put_is, without_is, without_none, first-within}
+use Rattle.roll.proofs.Firsts.{numbered_is, put_is, without_is, without_none, first_within}
 use Rattle.roll.proofs.Moves.{inserted_front}
 
 -- what stands at a place, behind i others
@@ -17,8 +17,8 @@ at_next [] i d h = absurd (omega arith)
 at_next (x ∷ xs) zero d h = refl
 at_next (x ∷ xs) (suc i) d h = at_next xs i d (omega arith)
 
-pub at-within : {X : Type 0} (xs : List X) (p : ℕ) (d : X) → 0 < p → p ≤ length xs → Some (get_or xs (p - 1) d) ≡ at xs p
-at-within xs p d h l =
+pub at_within : {X : Type 0} (xs : List X) (p : ℕ) (d : X) → 0 < p → p ≤ length xs → Some (get_or xs (p - 1) d) ≡ at xs p
+at_within xs p d h l =
     let z : suc (p - 1) ≡ p = omega arith in
     at_next xs (p - 1) d (omega arith) ∙ ap (at xs) z
 
@@ -64,7 +64,7 @@ module _ {X : Type 0} (k : Kind X) (cells : List X) (count n : ℕ) (front : tak
   after_enter p e part rest ok placed made =
       let xs : List X = take count cells in
       let h : n < length cells = omega (arith, ok_room k (length cells) xs e ok) in
-      let l : p ≤ length xs = omega (arith, first-within (λ x. not (before k x e)) xs) in
+      let l : p ≤ length xs = omega (arith, first_within (λ x. not (before k x e)) xs) in
       let z : n + 1 - 0 ≡ n + 1 = omega arith in
       let z' : length (take (n + 1 - 0) cells) ≡ n + 1 = ap (λ i. length (take i cells)) z ∙ length-take-le (n + 1) cells (omega arith) in
       let made' : part ≡ put k e xs =
@@ -82,8 +82,8 @@ module _ {X : Type 0} (k : Kind X) (cells : List X) (count n : ℕ) (front : tak
       ∙ sym (without_is k m (take count cells))
 
 -- the cells are as many as they were
-pub room-kept : {X : Type 0} (cells part : List X) (n : ℕ) → n ≤ length cells → length part ≡ length (take n cells) → length (part ++ drop n cells) ≡ length cells
-room-kept cells part n h e = simp (length-append, length-drop) (omega (arith, length-take-le n cells h))
+pub room_kept : {X : Type 0} (cells part : List X) (n : ℕ) → n ≤ length cells → length part ≡ length (take n cells) → length (part ++ drop n cells) ≡ length cells
+room_kept cells part n h e = simp (length-append, length-drop) (omega (arith, length-take-le n cells h))
 
 module _ {X : Type 0} (k : Kind X) (xs : List X) (m s n : ℕ) (seated : s ≡ seat k m xs) (size : n ≡ length xs) where
   held : (b : Bool) → ltb s n ≡ b → numbered k m xs ≡ b

@@ -30,9 +30,9 @@ said_of f h e = h ∙ ap f e
 pub read_before : {X : Type 0} (k : Kind X) (e : X) {x y : X} {b : Bool} → x ≡ y → b ≡ before k x e → not (before k y e) ≡ not b
 read_before k e r q = ap (λ z. not (before k z e)) (sym r) ∙ ap not (sym q)
 
-pub first-within : {X : Type 0} (p : X → Bool) (xs : List X) → first_at p xs ≤ length xs
-first-within p [] = omega arith
-first-within p (x ∷ xs) = go (p x) (first-within p xs)
+pub first_within : {X : Type 0} (p : X → Bool) (xs : List X) → first_at p xs ≤ length xs
+first_within p [] = omega arith
+first_within p (x ∷ xs) = go (p x) (first_within p xs)
   where
     go : (b : Bool) → first_at p xs ≤ length xs → cond b 0 (suc (first_at p xs)) ≤ suc (length xs)
     go true h = omega arith

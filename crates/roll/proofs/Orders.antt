@@ -88,9 +88,9 @@ module _ {X : Type 0} (k : Kind X) where
       let o = or_parts (eqb (k.number x) (k.number e)) (numbered k (k.number e) xs) n in
       (λ q. eqb-false (k.number x) (k.number e) o.0 (sym q), apart e xs o.1)
 
-  put-once : (e : X) (xs : List X) → Once k xs → numbered k (k.number e) xs ≡ false → Once k (put k e xs)
-  put-once e [] h n = (tt, tt)
-  put-once e (x ∷ xs) h n = go (before k x e) (put-once e xs h.1 (or_parts (eqb (k.number x) (k.number e)) (numbered k (k.number e) xs) n).1)
+  put_once : (e : X) (xs : List X) → Once k xs → numbered k (k.number e) xs ≡ false → Once k (put k e xs)
+  put_once e [] h n = (tt, tt)
+  put_once e (x ∷ xs) h n = go (before k x e) (put_once e xs h.1 (or_parts (eqb (k.number x) (k.number e)) (numbered k (k.number e) xs) n).1)
     where
       go : (b : Bool) → Once k (put k e xs) → Once k (cond b (x ∷ put k e xs) (e ∷ x ∷ xs))
       go true r = (all_put (λ y. k.number x ≡ k.number y → ⊥) e xs (eqb-false (k.number x) (k.number e) (or_parts (eqb (k.number x) (k.number e)) (numbered k (k.number e) xs) n).0) h.0, r)
@@ -104,47 +104,47 @@ module _ {X : Type 0} (k : Kind X) where
       go true r = h.1
       go false r = (all_without (λ y. before k x y ≡ true) n xs h.0, r)
 
-  without-once : (n : ℕ) (xs : List X) → Once k xs → Once k (without k n xs)
-  without-once n [] h = h
-  without-once n (x ∷ xs) h = go (eqb (k.number x) n) (without-once n xs h.1)
+  without_once : (n : ℕ) (xs : List X) → Once k xs → Once k (without k n xs)
+  without_once n [] h = h
+  without_once n (x ∷ xs) h = go (eqb (k.number x) n) (without_once n xs h.1)
     where
       go : (b : Bool) → Once k (without k n xs) → Once k (cond b xs (x ∷ without k n xs))
       go true r = h.1
       go false r = (all_without (λ y. k.number x ≡ k.number y → ⊥) n xs h.0, r)
 
-  put-long : (e : X) (xs : List X) → length (put k e xs) ≡ suc (length xs)
-  put-long e [] = refl
-  put-long e (x ∷ xs) = go (before k x e) (put-long e xs)
+  put_long : (e : X) (xs : List X) → length (put k e xs) ≡ suc (length xs)
+  put_long e [] = refl
+  put_long e (x ∷ xs) = go (before k x e) (put_long e xs)
     where
       go : (b : Bool) → length (put k e xs) ≡ suc (length xs) → length (cond b (x ∷ put k e xs) (e ∷ x ∷ xs)) ≡ suc (length (x ∷ xs))
       go true r = ap suc r
       go false r = refl
 
-  without-long : (n : ℕ) (xs : List X) → length (without k n xs) ≤ length xs
-  without-long n [] = omega arith
-  without-long n (x ∷ xs) = go (eqb (k.number x) n) (without-long n xs)
+  without_long : (n : ℕ) (xs : List X) → length (without k n xs) ≤ length xs
+  without_long n [] = omega arith
+  without_long n (x ∷ xs) = go (eqb (k.number x) n) (without_long n xs)
     where
       go : (b : Bool) → length (without k n xs) ≤ length xs → length (cond b xs (x ∷ without k n xs)) ≤ suc (length xs)
       go true r = omega arith
       go false r = omega arith
 
-  pub without-kept : (n : ℕ) (xs : List X) → Kept k xs → Kept k (without k n xs)
-  without-kept n xs h = record {
+  pub without_kept : (n : ℕ) (xs : List X) → Kept k xs → Kept k (without k n xs)
+  without_kept n xs h = record {
     ordered = without-ordered n xs h.ordered;
-    once = without-once n xs h.once;
+    once = without_once n xs h.once;
     admitted = all_without (λ x. k.admitted x ≡ true) n xs h.admitted;
-    few = omega (arith, without-long n xs, h.few);
+    few = omega (arith, without_long n xs, h.few);
   }
 
-  pub entered-kept : Transitive k → (room : ℕ) (xs : List X) (e : X) → Kept k xs → Kept k (entered k room xs e)
-  entered-kept t room xs e h = go (k.admitted e) (numbered k (k.number e) xs) (ltb (length xs) (min 120 room)) (comparable k e xs) refl refl refl refl
+  pub entered_kept : Transitive k → (room : ℕ) (xs : List X) (e : X) → Kept k xs → Kept k (entered k room xs e)
+  entered_kept t room xs e h = go (k.admitted e) (numbered k (k.number e) xs) (ltb (length xs) (min 120 room)) (comparable k e xs) refl refl refl refl
     where
       go : (a n r c : Bool) → k.admitted e ≡ a → numbered k (k.number e) xs ≡ n → ltb (length xs) (min 120 room) ≡ r → comparable k e xs ≡ c → Kept k (cond (is_ok (says a n r c)) (put k e xs) xs)
       go true false true true i p l q = record {
         ordered = put-ordered t e xs h.ordered p q;
-        once = put-once e xs h.once p;
+        once = put_once e xs h.once p;
         admitted = all_put (λ x. k.admitted x ≡ true) e xs i h.admitted;
-        few = omega (arith, put-long e xs, ltb-true (length xs) (min 120 room) l);
+        few = omega (arith, put_long e xs, ltb-true (length xs) (min 120 room) l);
       }
       go true true r c i p l q = h
       go true false false c i p l q = h
@@ -166,9 +166,9 @@ module _ {X : Type 0} (k : Kind X) where
       go true r (inr j) = ⊎_elim inl (λ l. inr (inr l)) (r j)
       go false r j = j
 
-  in_put-from : (z e : X) (xs : List X) → (z ≡ e) ⊎ In z xs → In z (put k e xs)
-  in_put-from z e [] i = i
-  in_put-from z e (x ∷ xs) i = go (before k x e) (in_put-from z e xs) i
+  in_put_from : (z e : X) (xs : List X) → (z ≡ e) ⊎ In z xs → In z (put k e xs)
+  in_put_from z e [] i = i
+  in_put_from z e (x ∷ xs) i = go (before k x e) (in_put_from z e xs) i
     where
       go : (b : Bool) → ((z ≡ e) ⊎ In z xs → In z (put k e xs)) → (z ≡ e) ⊎ In z (x ∷ xs) → In z (cond b (x ∷ put k e xs) (e ∷ x ∷ xs))
       go true r (inl q) = inr (r (inl q))
@@ -186,9 +186,9 @@ module _ {X : Type 0} (k : Kind X) where
       go false q r (inl e) = (inl e, λ m. eqb-false (k.number x) n q (ap k.number (sym e) ∙ m))
       go false q r (inr j) = let t = r j in (inr t.0, t.1)
 
-  in_without-from : (z : X) (n : ℕ) (xs : List X) → In z xs → (k.number z ≡ n → ⊥) → In z (without k n xs)
-  in_without-from z n [] i m = i
-  in_without-from z n (x ∷ xs) i m = go (eqb (k.number x) n) refl (λ j. in_without-from z n xs j m) i
+  in_without_from : (z : X) (n : ℕ) (xs : List X) → In z xs → (k.number z ≡ n → ⊥) → In z (without k n xs)
+  in_without_from z n [] i m = i
+  in_without_from z n (x ∷ xs) i m = go (eqb (k.number x) n) refl (λ j. in_without_from z n xs j m) i
     where
       go : (b : Bool) → eqb (k.number x) n ≡ b → (In z xs → In z (without k n xs)) → In z (x ∷ xs) → In z (cond b xs (x ∷ without k n xs))
       go true q r (inl e) = absurd (m (ap k.number e ∙ eqb-true (k.number x) n q))
@@ -199,11 +199,11 @@ module _ {X : Type 0} (k : Kind X) where
   pub adds : Adds k
   adds room xs ys e z h =
       let same : ys ≡ put k e xs = h.after ∙ ap (λ r. cond (is_ok r) (put k e xs) xs) (sym h.answer) in
-      (λ i. in_put_to z e xs (subst (In z) same i), λ i. subst (In z) (sym same) (in_put-from z e xs i))
+      (λ i. in_put_to z e xs (subst (In z) same i), λ i. subst (In z) (sym same) (in_put_from z e xs i))
 
   pub takes : Takes k
   takes n r xs ys z d h =
-      (λ i. in_without_to z n xs d (subst (In z) h.after i), λ i. subst (In z) (sym h.after) (in_without-from z n xs i.0 i.1))
+      (λ i. in_without_to z n xs d (subst (In z) h.after i), λ i. subst (In z) (sym h.after) (in_without_from z n xs i.0 i.1))
 
   heads : (x y : X) (xs ys : List X) → Ordered k (x ∷ xs) → Ordered k (y ∷ ys) → In x (y ∷ ys) → In y (x ∷ xs) → x ≡ y
   heads x y xs ys p q (inl e) j = e
@@ -228,8 +228,8 @@ module _ {X : Type 0} (k : Kind X) where
 
   pub ran_kept : Transitive k → AlwaysKept k
   ran_kept t room xs opened = record { ordered = tt; once = tt; admitted = tt; few = omega arith }
-  ran_kept t room ys (did_enter {xs = xs} e r ran h) = subst (Kept k) (sym h.after) (entered-kept t room xs e (ran_kept t room xs ran))
-  ran_kept t room ys (did_strike {xs = xs} n r ran h) = subst (Kept k) (sym h.after) (without-kept n xs (ran_kept t room xs ran))
+  ran_kept t room ys (did_enter {xs = xs} e r ran h) = subst (Kept k) (sym h.after) (entered_kept t room xs e (ran_kept t room xs ran))
+  ran_kept t room ys (did_strike {xs = xs} n r ran h) = subst (Kept k) (sym h.after) (without_kept n xs (ran_kept t room xs ran))
 
 -- entries by number and row alone
 abbrev lines : Algebra → Kind (ℕ × Row)
@@ -247,8 +247,8 @@ module _ {M : Type 0} (a : Algebra) (row : M → Row) (span : M → ℕ) where
   pub kind-transitive : Laws a → ((v : M) → Own a (row v)) → Transitive (kind a row span)
   kind-transitive w o x y z p q = w.transitive (row x.value) (row y.value) (row z.value) (o x.value) (o y.value) (o z.value) p q
 
-  pub same-order : Laws a → ((v : M) → Own a (row v)) → SameOrder (kind a row span) row
-  same-order w o room room' xs ys p q s =
+  pub same_order : Laws a → ((v : M) → Own a (row v)) → SameOrder (kind a row span) row
+  same_order w o room room' xs ys p q s =
       let t = kind-transitive w o in
       let k = kind a row span in
       settled (lines a) (map (line row) xs) (map (line row) ys) (ordered-lines xs (ran_kept k t room xs p).ordered) (ordered-lines ys (ran_kept k t room' ys q).ordered) s

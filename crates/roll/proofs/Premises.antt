@@ -11,8 +11,8 @@ use Rattle.roll.specs.Totals.{rows_of, Few, Ready}
 use Rattle.roll.specs.declared.straight.Entry.{Entry}
 
 module _ {M : Type 0} (a : Algebra) (row : M → Row) (span : M → ℕ) where
-  pub kept-few : (xs : List (Entry M)) → Kept (kind a row span) xs → Few span xs
-  kept-few xs h = record {
+  pub kept_few : (xs : List (Entry M)) → Kept (kind a row span) xs → Few span xs
+  kept_few xs h = record {
     count = h.few;
     each = All-weaker (λ x. leb (span x.value) 1 ≡ true) (λ x. span x.value ≤ 1) (λ x q. leb-true (span x.value) 1 q) xs h.admitted;
   }
@@ -22,9 +22,9 @@ module _ {M : Type 0} (a : Algebra) (row : M → Row) (span : M → ℕ) where
   climbs (x ∷ []) h = tt
   climbs (x ∷ y ∷ xs) h = ((and_parts (a.not_above (row x.value) (row y.value)) _ h.0.0).0, climbs (y ∷ xs) h.1)
 
-  own-rows : ((v : M) → Own a (row v)) → (xs : List (Entry M)) → AllByRecursion (Own a) (rows_of row xs)
-  own-rows o [] = tt
-  own-rows o (x ∷ xs) = (o x.value, own-rows o xs)
+  own_rows : ((v : M) → Own a (row v)) → (xs : List (Entry M)) → AllByRecursion (Own a) (rows_of row xs)
+  own_rows o [] = tt
+  own_rows o (x ∷ xs) = (o x.value, own_rows o xs)
 
   pub ready : ((v : M) → Own a (row v)) → Ready a row span
-  ready o xs h = (kept-few xs h, record { own = own-rows o xs; climbs = climbs xs h.ordered })
+  ready o xs h = (kept_few xs h, record { own = own_rows o xs; climbs = climbs xs h.ordered })

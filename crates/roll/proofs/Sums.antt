@@ -43,5 +43,5 @@ module _ {M : Type 0} {a : Algebra} (laws : Laws a) (row : M → Row) (owned : (
       let pushed : take (i + 1) xs ≡ take i xs ++ (x ∷ []) = take_more xs i x within ∙ ap (λ y. take i xs ++ (y ∷ [])) (sym read) in
       sym (ap (sums a row) pushed ∙ sums-append (take i xs) (x ∷ []) ∙ ap (a.plus (sums a row (take i xs))) (laws.plus_nothing (row x.value) (owned x.value)))
 
-pub few-at : {M : Type 0} (span : M → ℕ) (xs : List (Entry M)) (i : ℕ) (x : Entry M) → i < length xs → x ≡ get_or xs i x → Few span xs → span x.value ≤ 1
-few-at span xs i x within read few = subst (λ y. span y.value ≤ 1) (sym read) (All-get_or (λ y. span y.value ≤ 1) xs i x within few.each)
+pub few_at : {M : Type 0} (span : M → ℕ) (xs : List (Entry M)) (i : ℕ) (x : Entry M) → i < length xs → x ≡ get_or xs i x → Few span xs → span x.value ≤ 1
+few_at span xs i x within read few = subst (λ y. span y.value ≤ 1) (sym read) (All-get_or (λ y. span y.value ≤ 1) xs i x within few.each)

@@ -84,8 +84,8 @@ amount z f = ap (to_z w64) (eight (of_z w64 z) (of_z-lt z f)) ∙ to_z-of_z w64 
     of_z-lt (negsuc n) g = omega (arith, g.sfits)
 
 -- amounts are equal if each is
-same-amounts : (a a' b b' c c' d d' : ℤ) → a ≡ a' → b ≡ b' → c ≡ c' → d ≡ d' → ◌≡◌ {A = Amounts} (record { first = a; second = b; third = c; fourth = d }) (record { first = a'; second = b'; third = c'; fourth = d' })
-same-amounts a a' b b' c c' d d' q r s t = cc
+same_amounts : (a a' b b' c c' d d' : ℤ) → a ≡ a' → b ≡ b' → c ≡ c' → d ≡ d' → ◌≡◌ {A = Amounts} (record { first = a; second = b; third = c; fourth = d }) (record { first = a'; second = b'; third = c'; fourth = d' })
+same_amounts a a' b b' c c' d d' q r s t = cc
 
 -- entries are equal if number and amounts are
 same_entry : (n n' : ℕ) (a a' : Amounts) → n ≡ n' → a ≡ a' → ◌≡◌ {A = Entry} (record { number = n; amounts = a }) (record { number = n'; amounts = a' })
@@ -96,7 +96,7 @@ pub entries_back : EntriesBack
 entries_back e f =
     let a = e.amounts in
     same_entry _ e.number _ a (four e.number f.number)
-    (same-amounts _ a.first _ a.second _ a.third _ a.fourth (amount a.first f.first) (amount a.second f.second) (amount a.third f.third) (amount a.fourth f.fourth))
+    (same_amounts _ a.first _ a.second _ a.third _ a.fourth (amount a.first f.first) (amount a.second f.second) (amount a.third f.third) (amount a.fourth f.fourth))
 
 -- eight bytes of many
 part : (bs : List ℕ) (i : ℕ) → i + 8 ≤ length bs → AllByRecursion (λ b. b < 256) bs → amount_bytes (to_z w64 (of8 (drop i bs) 0)) ≡ take 8 (drop i bs)

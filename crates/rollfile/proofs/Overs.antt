@@ -34,8 +34,8 @@ length-entries [] = refl
 length-entries (x ∷ xs) = length-append (entry_bytes x) (flat_map entry_bytes xs) ∙ omega (arith, length-entries xs)
 
 -- one entry more
-pub entries-more : (out now : List ℕ) (es : List Entry) (i : ℕ) (e : Entry) → i < length es → e ≡ get_or es i e → 2 + 37 * length es ≤ length out → now ≡ over out 2 (flat_map entry_bytes (take i es)) → over now (2 + 37 * i) (entry_bytes e) ≡ over out 2 (flat_map entry_bytes (take (i + 1) es))
-entries-more out now es i e h r l so =
+pub entries_more : (out now : List ℕ) (es : List Entry) (i : ℕ) (e : Entry) → i < length es → e ≡ get_or es i e → 2 + 37 * length es ≤ length out → now ≡ over out 2 (flat_map entry_bytes (take i es)) → over now (2 + 37 * i) (entry_bytes e) ≡ over out 2 (flat_map entry_bytes (take (i + 1) es))
+entries_more out now es i e h r l so =
     let n : length (flat_map entry_bytes (take i es)) ≡ 37 * i = length-entries (take i es) ∙ ap (λ k. 37 * k) (length-take-le i es (omega arith)) in
     ap (λ z. over z (2 + 37 * i) (entry_bytes e)) so
     ∙ over-over out 2 (2 + 37 * i) (flat_map entry_bytes (take i es)) (entry_bytes e) (omega arith) (omega arith)

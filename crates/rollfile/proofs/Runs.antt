@@ -11,7 +11,7 @@ use Rattle.roll.specs.declared.refusal.Refusal.TheVariants.{UnknownKind, ShortRe
 use Rattle.records.specs.declared.reader.Reader.{Reader}
 use Rattle.records.specs.Records.{Rec, fault_at, known, size_of, record_of, same, parsed, located, some, next_of, moved, Behind}
 use Rattle.rollfile.specs.Files.{then, applied, run}
-use Rattle.records.proofs.Nexts.{next-at, rest-long}
+use Rattle.records.proofs.Nexts.{next_at, rest_long}
 
 -- the bytes of a body are passed over
 pub skips : (d : Columns) (room : ℕ) (bs : List ℕ) (xs : List Entry) (k at : ℕ) → k ≤ length bs → run d room bs xs k at ≡ run d room (drop k bs) xs 0 (at + k)
@@ -20,8 +20,8 @@ skips d room [] xs (suc k) at h = absurd (omega arith)
 skips d room (b ∷ bs) xs (suc k) at h = skips d room bs xs k (at + 1) (omega arith) ∙ ap (run d room (drop k bs) xs 0) (omega arith)
 
 -- a record that is read has its body
-pub parsed-fits : (first : Bool) (k : ℕ) (bs : List ℕ) (r : Rec) → parsed first k bs ≡ Ok r → size_of k ≤ length bs
-parsed-fits first k bs r q = go (known k) (same first (eqb k 1)) q
+pub parsed_fits : (first : Bool) (k : ℕ) (bs : List ℕ) (r : Rec) → parsed first k bs ≡ Ok r → size_of k ≤ length bs
+parsed_fits first k bs r q = go (known k) (same first (eqb k 1)) q
   where
     go : (a b : Bool) → ◌≡◌ {A = Result Rec Refusal} (cond a (cond (ltb (length bs) (size_of k)) (Err ShortRecord) (cond b (Ok (record_of k (take (size_of k) bs))) (Err Misplaced))) (Err UnknownKind)) (Ok r) → size_of k ≤ length bs
     go a b e = grind (arith, nat_tests)
@@ -37,7 +37,7 @@ pub run_more : (d : Columns) (room : ℕ) (bs : List ℕ) (xs : List Entry) (at 
 run_more d room bs xs at positive short h =
     ap (λ l. run d room l xs 0 at) (drop_more bs at 0 h)
     ∙ go (parsed false (get_or bs at 0) (drop (at + 1) bs)) refl
-    ∙ sym (ap (continues d room bs xs at) (next-at bs at short h ∙ ap (λ b. some (located at (parsed b (get_or bs at 0) (drop (at + 1) bs)))) (ne_eqb at 0 (omega arith))))
+    ∙ sym (ap (continues d room bs xs at) (next_at bs at short h ∙ ap (λ b. some (located at (parsed b (get_or bs at 0) (drop (at + 1) bs)))) (ne_eqb at 0 (omega arith))))
   where
     goes : (x : Result (List Entry) Fault) → size_of (get_or bs at 0) ≤ length (drop (at + 1) bs) → then x (λ ys. run d room (drop (at + 1) bs) ys (size_of (get_or bs at 0)) (at + 1)) ≡ then x (λ ys. run d room (drop (at + 1 + size_of (get_or bs at 0)) bs) ys 0 (at + 1 + size_of (get_or bs at 0)))
     goes (Err f) l = refl
@@ -45,7 +45,7 @@ run_more d room bs xs at positive short h =
 
     go : (p : Result Rec Refusal) → parsed false (get_or bs at 0) (drop (at + 1) bs) ≡ p → then (then (located at p) (λ r. located at (applied d room xs r))) (λ ys. run d room (drop (at + 1) bs) ys (size_of (get_or bs at 0)) (at + 1)) ≡ continues d room bs xs at (some (located at p))
     go (Err f) e = refl
-    go (Ok r) e = goes (located at (applied d room xs r)) (parsed-fits false (get_or bs at 0) (drop (at + 1) bs) r e)
+    go (Ok r) e = goes (located at (applied d room xs r)) (parsed_fits false (get_or bs at 0) (drop (at + 1) bs) r e)
 
 -- behind the last byte there is no record
 pub next_none : (bs : List ℕ) (at : ℕ) → 0 < at → length bs ≤ 65536 → length bs ≤ at → next_of bs at ≡ Ok None
@@ -65,12 +65,12 @@ pub next_fits : (bs : List ℕ) (at : ℕ) (r : Rec) → 0 < at → length bs �
 next_fits bs at r positive short q =
     elim (leb_tells (length bs) at) [
       | inl t ↦ (let z : ◌≡◌ {A = ℕ} 0 1 = cc (next_none bs at positive short t.1) in absurd (omega arith))
-      | inr t ↦ go t.1 (parsed (eqb at 0) (get_or bs at 0) (drop (at + 1) bs)) refl (sym (next-at bs at short t.1) ∙ q)
+      | inr t ↦ go t.1 (parsed (eqb at 0) (get_or bs at 0) (drop (at + 1) bs)) refl (sym (next_at bs at short t.1) ∙ q)
     ]
   where
     go : at < length bs → (p : Result Rec Refusal) → parsed (eqb at 0) (get_or bs at 0) (drop (at + 1) bs) ≡ p → some (located at p) ≡ Ok (Some r) → at + 1 + size_of (get_or bs at 0) ≤ length bs
     go h (Err f) e e' = let z : ◌≡◌ {A = ℕ} 0 1 = cc in absurd (omega arith)
-    go h (Ok r') e e' = omega (arith, parsed-fits (eqb at 0) (get_or bs at 0) (drop (at + 1) bs) r' e, rest-long bs at)
+    go h (Ok r') e e' = omega (arith, parsed_fits (eqb at 0) (get_or bs at 0) (drop (at + 1) bs) r' e, rest_long bs at)
 
 -- a first record that is read is a heading
 pub parsed-first : (k : ℕ) (bs : List ℕ) (r : Rec) → parsed true k bs ≡ Ok r → size_of k ≡ 1
@@ -89,7 +89,7 @@ first_is bs o q =
       | inr t ↦ (let e : next_of bs 0 ≡ Err (fault_at 0 TooLong) = cond-true _ _ _ (lt-ltb 65536 (length bs) t.1) in let z : ◌≡◌ {A = ℕ} 0 1 = cc in absurd (omega arith))
       | inl t ↦ elim (leb_tells (length bs) 0) [
         | inl s ↦ (let e : next_of bs 0 ≡ Err (fault_at 0 ShortRecord) = cond-false _ _ _ (le-ltb 65536 (length bs) t.1) ∙ cond-false _ _ _ (le-ltb 0 (length bs) s.1) in let z : ◌≡◌ {A = ℕ} 0 1 = cc in absurd (omega arith))
-        | inr s ↦ go t.1 s.1 (parsed true (get_or bs 0 0) (drop (0 + 1) bs)) refl (sym (next-at bs 0 t.1 s.1) ∙ q)
+        | inr s ↦ go t.1 s.1 (parsed true (get_or bs 0 0) (drop (0 + 1) bs)) refl (sym (next_at bs 0 t.1 s.1) ∙ q)
       ]
     ]
   where
@@ -98,11 +98,11 @@ first_is bs o q =
     go l h (Ok r) e e' =
         let one : size_of (get_or bs 0 0) ≡ 1 = parsed-first (get_or bs 0 0) (drop (0 + 1) bs) r e in
         let at : 0 + 1 + size_of (get_or bs 0 0) ≡ 2 = omega arith in
-        (sym (ap (moved bs 0) e') ∙ at, omega (arith, parsed-fits true (get_or bs 0 0) (drop (0 + 1) bs) r e, rest-long bs 0), l)
+        (sym (ap (moved bs 0) e') ∙ at, omega (arith, parsed_fits true (get_or bs 0 0) (drop (0 + 1) bs) r e, rest_long bs 0), l)
 
 -- behind the heading, where one was read
-pub first-behind : (bs : List ℕ) (is : Reader) (o : Option Rec) → next_of bs 0 ≡ Ok o → is.place ≡ moved bs 0 (Ok o) → is.bytes.now ≡ bs → Behind is × (is.place ≡ 2)
-first-behind bs is o q at file =
+pub first_behind : (bs : List ℕ) (is : Reader) (o : Option Rec) → next_of bs 0 ≡ Ok o → is.place ≡ moved bs 0 (Ok o) → is.bytes.now ≡ bs → Behind is × (is.place ≡ 2)
+first_behind bs is o q at file =
     let f = first_is bs o q in
     let n : length is.bytes.now ≡ length bs = ap length file in
     let p : is.place ≡ 2 = at ∙ f.0 in

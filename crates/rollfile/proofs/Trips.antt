@@ -17,11 +17,11 @@ use Rattle.records.specs.Records.{heading, entering, parsed, located, some}
 use Rattle.rollfile.specs.Files.{then, applied, stepped, run, headed, opened, reads, writes}
 use Rattle.rollfile.specs.Laws.{RoundTrip, SameBytes}
 use Rattle.rollfile.specs.Writing.{over}
-use Rattle.records.proofs.Nexts.{next-at, parsed_ok}
+use Rattle.records.proofs.Nexts.{next_at, parsed_ok}
 use Rattle.rollfile.proofs.Overs.{length-entries}
 use Rattle.rollfile.proofs.Runs.{skips}
 use Rattle.rollfile.proofs.Digits.{entries_back, columns_back}
-use Rattle.rollfile.proofs.Fits.{admitted-fits}
+use Rattle.rollfile.proofs.Fits.{admitted_fits}
 
 -- a number above all others does not stand
 unnumbered : (e : Entry) (xs : List Entry) → AllByRecursion (λ y. y.number < e.number) xs → numbered e.number xs ≡ false
@@ -34,8 +34,8 @@ put_last e [] h = refl
 put_last e (x ∷ xs) h = cond-true _ _ _ (lt-ltb x.number e.number h.0) ∙ ap (λ l. x ∷ l) (put_last e xs h.1)
 
 -- and is entered
-enters-last : (d : Columns) (room : ℕ) (e : Entry) (xs : List Entry) → Admitted d e → AllByRecursion (λ y. y.number < e.number) xs → length xs < min 120 room → enters d room xs e ≡ Ok tt
-enters-last d room e xs g h l =
+enters_last : (d : Columns) (room : ℕ) (e : Entry) (xs : List Entry) → Admitted d e → AllByRecursion (λ y. y.number < e.number) xs → length xs < min 120 room → enters d room xs e ≡ Ok tt
+enters_last d room e xs g h l =
     cond-true _ _ _ g.1 ∙ cond-false _ _ _ (unnumbered e xs h) ∙ cond-true _ _ _ (lt-ltb (length xs) (min 120 room) l) ∙ cond-true _ _ _ g.2
 
 -- one entry's record
@@ -45,8 +45,8 @@ one_more d room e xs rest at g h l =
     let body : take 36 (entry_body e ++ rest) ≡ entry_body e = take_at (entry_body e) rest 36 refl in
     let is : parsed false 2 (entry_body e ++ rest) ≡ Ok (entering (entry_body e)) = parsed_ok false 2 (entry_body e ++ rest) refl long refl ∙ ap (λ b. Ok (entering b)) body in
     ap (λ p. then (located at p) (λ r. located at (applied d room xs r))) is
-    ∙ ap (λ x. located at (if_ok (enters d room xs x) (put x xs))) (entries_back e (admitted-fits d e g))
-    ∙ ap (λ r. located at (if_ok r (put e xs))) (enters-last d room e xs g h l)
+    ∙ ap (λ x. located at (if_ok (enters d room xs x) (put x xs))) (entries_back e (admitted_fits d e g))
+    ∙ ap (λ r. located at (if_ok r (put e xs))) (enters_last d room e xs g h l)
     ∙ ap Ok (put_last e xs h)
 
 -- the records of rising entries
@@ -68,7 +68,7 @@ opened_is : (d : Columns) (rest : List ℕ) → length rest ≤ 65534 → opened
 opened_is d rest l =
     let bs : List ℕ = heading_bytes d ++ rest in
     let is : parsed true 1 (count_of d ∷ rest) ≡ Ok (heading (count_of d ∷ [])) = parsed_ok true 1 (count_of d ∷ rest) refl (omega arith) refl in
-    ap (λ r. then r headed) (next-at bs 0 (omega arith) (omega arith) ∙ ap (λ p. some (located 0 p)) is)
+    ap (λ r. then r headed) (next_at bs 0 (omega arith) (omega arith) ∙ ap (λ p. some (located 0 p)) is)
     ∙ ap (located 0) (columns_back.0 d)
 
 -- a well-formed roll reads back

@@ -14,12 +14,12 @@ use Rattle.sets.specs.Spaces.{Space, space, same}
 use Rattle.sets.specs.Trace
 use Rattle.sets.specs.Trace.{somes}
 use Rattle.sets.proofs.Forms.{then, at, above, lifted, topped, child, choices, count_from, count_down, least, greatest, sweep, widths, open_at, split, examined, raise, lower, pass, squeeze, squeezed, explore, trace}
-use Rattle.sets.proofs.Vectors.{Below, Rising, rising_weaker, rising-at, below_length, above_same}
+use Rattle.sets.proofs.Vectors.{Below, Rising, rising_weaker, rising_at, below_length, above_same}
 use Rattle.sets.proofs.Choices.{Least, least_is, counting_is}
 use Rattle.sets.proofs.Squeeze.{Valid, Tight, Solves, raises_tight, pass_tight, squeeze_tight}
 use Rattle.sets.proofs.Opens.{Opens, open_is}
 use Rattle.sets.proofs.Kept.{joined_same}
-use Rattle.sets.proofs.Trace.{child-valid, values, start-valid, trace-finds, trace-counts}
+use Rattle.sets.proofs.Trace.{child_valid, values, start_valid, trace_finds, trace_counts}
 use Rattle.sets.proofs.Steps.{after, before, raise_at, lower_at, raise_sweeps, lower_sweeps, topped-settled}
 
 -- a list made by index
@@ -47,24 +47,24 @@ each_id k [] = refl
 each_id k (x ∷ s) = ap (λ t. x ∷ t) (each_id (k + 1) s)
 
 -- the place of position j in the highest set with position i at v, x being its highest place
-raised-one : ℕ → ℕ → ℕ → ℕ → ℕ
-raised-one i v j x = cond (ltb j i) (min (v - (i - j)) x) (cond (eqb j i) v x)
+raised_one : ℕ → ℕ → ℕ → ℕ → ℕ
+raised_one i v j x = cond (ltb j i) (min (v - (i - j)) x) (cond (eqb j i) v x)
 
-raised-each : (i v k d : ℕ) (s : List ℕ) → k + d ≡ i → each_with (raised-one i v) k s ≡ topped s d v
-unfolding each_with raised-one
-raised-each i v k d [] e = refl
-raised-each i v k zero (x ∷ s) e =
+raised_each : (i v k d : ℕ) (s : List ℕ) → k + d ≡ i → each_with (raised_one i v) k s ≡ topped s d v
+unfolding each_with raised_one
+raised_each i v k d [] e = refl
+raised_each i v k zero (x ∷ s) e =
     ap₂ (λ z zs. z ∷ zs)
     (cond-false (ltb k i) (min (v - (i - k)) x) (cond (eqb k i) v x) (le-ltb k i (omega arith)) ∙ cond-true (eqb k i) v x (eq-eqb k i (omega arith)))
-    (each_same (raised-one i v) (λ j y. y) (k + 1) s (λ j y l. cond-false (ltb j i) (min (v - (i - j)) y) (cond (eqb j i) v y) (le-ltb j i (omega arith)) ∙ cond-false (eqb j i) v y (ne_eqb j i (λ q. omega arith))) ∙ each_id (k + 1) s)
-raised-each i v k (suc d) (x ∷ s) e =
+    (each_same (raised_one i v) (λ j y. y) (k + 1) s (λ j y l. cond-false (ltb j i) (min (v - (i - j)) y) (cond (eqb j i) v y) (le-ltb j i (omega arith)) ∙ cond-false (eqb j i) v y (ne_eqb j i (λ q. omega arith))) ∙ each_id (k + 1) s)
+raised_each i v k (suc d) (x ∷ s) e =
     ap₂ (λ z zs. z ∷ zs)
     (cond-true (ltb k i) (min (v - (i - k)) x) (cond (eqb k i) v x) (lt-ltb k i (omega arith)) ∙ (let z : min (v - (i - k)) x ≡ min (v - suc d) x = omega arith in z))
-    (raised-each i v (k + 1) d s (omega arith))
+    (raised_each i v (k + 1) d s (omega arith))
 
 -- the place of position j in the lowest set with position i at v, x being its lowest place
-lowered-one : ℕ → ℕ → ℕ → ℕ → ℕ
-lowered-one i v j x = cond (ltb j i) x (cond (eqb j i) v (max (v + (j - i)) x))
+lowered_one : ℕ → ℕ → ℕ → ℕ → ℕ
+lowered_one i v j x = cond (ltb j i) x (cond (eqb j i) v (max (v + (j - i)) x))
 
 above_loose : (u x : ℕ) (s : List ℕ) → Rising x s → above (suc u) s ≡ above (max (suc u) x) s
 above_loose u x s r = elim (cases_lt (suc u) x) [
@@ -72,35 +72,35 @@ above_loose u x s r = elim (cases_lt (suc u) x) [
   | inr l ↦ ap (λ w. above w s) (let z : suc u ≡ max (suc u) x = omega arith in z)
 ]
 
-lowered-past : (i v k u b : ℕ) (s : List ℕ) → i < k → v + (k - i) ≡ suc u → Rising b s → each_with (lowered-one i v) k s ≡ above u s
-unfolding each_with lowered-one
-lowered-past i v k u b [] l e r = refl
-lowered-past i v k u b (x ∷ s) l e r =
+lowered_past : (i v k u b : ℕ) (s : List ℕ) → i < k → v + (k - i) ≡ suc u → Rising b s → each_with (lowered_one i v) k s ≡ above u s
+unfolding each_with lowered_one
+lowered_past i v k u b [] l e r = refl
+lowered_past i v k u b (x ∷ s) l e r =
     ap₂ (λ z zs. z ∷ zs)
     (cond-false (ltb k i) x (cond (eqb k i) v (max (v + (k - i)) x)) (le-ltb k i (omega arith)) ∙ cond-false (eqb k i) v (max (v + (k - i)) x) (ne_eqb k i (λ q. omega arith)) ∙ ap (λ w. max w x) e)
-    (lowered-past i v (k + 1) (suc u) x s (omega arith) (omega arith) r.1 ∙ above_loose u x s r.1)
+    (lowered_past i v (k + 1) (suc u) x s (omega arith) (omega arith) r.1 ∙ above_loose u x s r.1)
 
-lowered-each : (i v k d b : ℕ) (s : List ℕ) → k + d ≡ i → Rising b s → each_with (lowered-one i v) k s ≡ lifted s d v
-unfolding each_with lowered-one
-lowered-each i v k d b [] e r = refl
-lowered-each i v k zero b (x ∷ s) e r =
+lowered_each : (i v k d b : ℕ) (s : List ℕ) → k + d ≡ i → Rising b s → each_with (lowered_one i v) k s ≡ lifted s d v
+unfolding each_with lowered_one
+lowered_each i v k d b [] e r = refl
+lowered_each i v k zero b (x ∷ s) e r =
     ap₂ (λ z zs. z ∷ zs)
     (cond-false (ltb k i) x (cond (eqb k i) v (max (v + (k - i)) x)) (le-ltb k i (omega arith)) ∙ cond-true (eqb k i) v (max (v + (k - i)) x) (eq-eqb k i (omega arith)))
-    (lowered-past i v (k + 1) v x s (omega arith) (omega arith) r.1)
-lowered-each i v k (suc d) b (x ∷ s) e r =
+    (lowered_past i v (k + 1) v x s (omega arith) (omega arith) r.1)
+lowered_each i v k (suc d) b (x ∷ s) e r =
     ap₂ (λ z zs. z ∷ zs)
     (cond-true (ltb k i) x (cond (eqb k i) v (max (v + (k - i)) x)) (lt-ltb k i (omega arith)))
-    (lowered-each i v (k + 1) d x s (omega arith) r.1)
+    (lowered_each i v (k + 1) d x s (omega arith) r.1)
 
-least-same : (f : ℕ → Bool) (v n : ℕ) → Spaces.least f v n ≡ least f v n
-least-same f v zero = refl
-least-same f v (suc n) = ap (cond (f v) (Some v)) (ap (λ w. Spaces.least f w n) (add-one v) ∙ least-same f (suc v) n)
+least_same : (f : ℕ → Bool) (v n : ℕ) → Spaces.least f v n ≡ least f v n
+least_same f v zero = refl
+least_same f v (suc n) = ap (cond (f v) (Some v)) (ap (λ w. Spaces.least f w n) (add-one v) ∙ least_same f (suc v) n)
 
-greatest-same : (f : ℕ → Bool) (v l n : ℕ) → (0 < n → l + n ≡ suc v) → Spaces.greatest f v n ≡ greatest f l n
-greatest-same f v l zero h = refl
-greatest-same f v l (suc n) h =
+greatest_same : (f : ℕ → Bool) (v l n : ℕ) → (0 < n → l + n ≡ suc v) → Spaces.greatest f v n ≡ greatest f l n
+greatest_same f v l zero h = refl
+greatest_same f v l (suc n) h =
     let e : v ≡ l + n = omega (arith, h (omega arith)) in
-    ap₂ (λ w q. cond (f w) (Some w) q) e (greatest-same f (v - 1) l n (λ k. omega arith))
+    ap₂ (λ w q. cond (f w) (Some w) q) e (greatest_same f (v - 1) l n (λ k. omega arith))
 
 before_is : (hi : List ℕ) (i : ℕ) → i < length hi → cond (ltb (suc i) (length hi)) (min (get_or hi i 0) (get_or hi (suc i) 0 - 1)) (get_or hi i 0) ≡ before hi i
 before_is [] i l = absurd (omega arith)
@@ -122,8 +122,8 @@ widths_add [] (h ∷ hi) b = absurd b
 widths_add (l ∷ lo) [] b = absurd b
 widths_add (l ∷ lo) (h ∷ hi) b = omega (arith, sum_by-cons (λ x. x) l lo, sum_by-cons (λ x. x) h hi, widths_add lo hi b.1, b.0)
 
-widths-same : (lo hi : List ℕ) → Below lo hi → Spaces.widths lo hi ≡ widths lo hi
-widths-same lo hi b = omega (arith, widths_add lo hi b)
+widths_same : (lo hi : List ℕ) → Below lo hi → Spaces.widths lo hi ≡ widths lo hi
+widths_same lo hi b = omega (arith, widths_add lo hi b)
 
 open_shift : (i : ℕ) (q : Option ℕ) → then q (λ j. Some (i + 1 + j)) ≡ then (then q (λ j. Some (suc j))) (λ j. Some (i + j))
 open_shift i None = refl
@@ -139,37 +139,37 @@ open_same i (l ∷ lo) (h ∷ hi) = go (ltb l h) (open_same (i + 1) lo hi)
     go true ih = ap Some (let z : i ≡ i + 0 = omega arith in z)
     go false ih = ih ∙ open_shift i (open_at lo hi)
 
-raised-same : (hi : List ℕ) (i v : ℕ) → Spaces.raised hi (suc i) v ≡ topped hi i v
-unfolding raised-one
-raised-same hi i v = by_index (raised-one (suc i) v) 1 [] hi refl ∙ raised-each (suc i) v 1 i hi (omega arith)
+raised_same : (hi : List ℕ) (i v : ℕ) → Spaces.raised hi (suc i) v ≡ topped hi i v
+unfolding raised_one
+raised_same hi i v = by_index (raised_one (suc i) v) 1 [] hi refl ∙ raised_each (suc i) v 1 i hi (omega arith)
 
-lowered-same : (b : ℕ) (lo : List ℕ) (i v : ℕ) → Rising b lo → Spaces.lowered lo (suc i) v ≡ lifted lo i v
-unfolding lowered-one
-lowered-same b lo i v r = by_index (lowered-one (suc i) v) 1 [] lo refl ∙ lowered-each (suc i) v 1 i b lo (omega arith) r
+lowered_same : (b : ℕ) (lo : List ℕ) (i v : ℕ) → Rising b lo → Spaces.lowered lo (suc i) v ≡ lifted lo i v
+unfolding lowered_one
+lowered_same b lo i v r = by_index (lowered_one (suc i) v) 1 [] lo refl ∙ lowered_each (suc i) v 1 i b lo (omega arith) r
 
 -- the places that position suc i and its neighbour have
 at_same : (s : List ℕ) (i : ℕ) → Spaces.at s (suc i) ≡ at s i
 at_same s i = ap (λ k. get_or s k 0) (let z : suc i - 1 ≡ i = omega arith in z)
 
-from-same : (lo : List ℕ) (i : ℕ) → 1 ≤ at lo 0 → Spaces.from lo (suc i) ≡ max (at lo i) (after lo i)
-from-same lo zero h = omega arith
-from-same lo (suc i) h =
+from_same : (lo : List ℕ) (i : ℕ) → 1 ≤ at lo 0 → Spaces.from lo (suc i) ≡ max (at lo i) (after lo i)
+from_same lo zero h = omega arith
+from_same lo (suc i) h =
     ap₂ max (at_same lo (suc i)) (cond-false (leb (suc (suc i)) 1) 0 (Spaces.at lo (suc (suc i) - 1) + 1) (lt-leb (suc (suc i)) 1 (omega arith)) ∙ f)
   where
     f : Spaces.at lo (suc (suc i) - 1) + 1 ≡ suc (at lo i)
     f = ap (λ k. get_or lo k 0 + 1) (let z : suc (suc i) - 1 - 1 ≡ i = omega arith in z) ∙ add-one (at lo i)
 
-upto-same : (hi : List ℕ) (i : ℕ) → i < length hi → Spaces.upto hi (suc i) ≡ before hi i
-upto-same hi i l =
+upto_same : (hi : List ℕ) (i : ℕ) → i < length hi → Spaces.upto hi (suc i) ≡ before hi i
+upto_same hi i l =
     ap₂ (λ j k. cond (ltb (suc i) (length hi)) (min (get_or hi j 0) (get_or hi k 0 - 1)) (get_or hi j 0)) (let z : suc i - 1 ≡ i = omega arith in z) (let z : suc i + 1 - 1 ≡ suc i = omega arith in z)
     ∙ before_is hi i l
 
 module _ (a : Algebra) (xs : List Row) (low high : Row) where
-  raise-same : (lo hi : List ℕ) (i : ℕ) → 1 ≤ at lo 0 →
+  raise_same : (lo hi : List ℕ) (i : ℕ) → 1 ≤ at lo 0 →
       Spaces.raise a xs low lo hi (suc i) ≡ least (λ v. a.not_above low (total a xs (topped hi i v))) (max (at lo i) (after lo i)) (suc (at hi i) - max (at lo i) (after lo i))
-  raise-same lo hi i h =
-      least-same (Spaces.reaches a xs low hi (suc i)) (Spaces.from lo (suc i)) (Spaces.at hi (suc i) + 1 - Spaces.from lo (suc i))
-      ∙ ap (λ g. least g (Spaces.from lo (suc i)) (Spaces.at hi (suc i) + 1 - Spaces.from lo (suc i))) (fun_ext (λ v. ap (λ t. a.not_above low (total a xs t)) (raised-same hi i v)))
+  raise_same lo hi i h =
+      least_same (Spaces.reaches a xs low hi (suc i)) (Spaces.from lo (suc i)) (Spaces.at hi (suc i) + 1 - Spaces.from lo (suc i))
+      ∙ ap (λ g. least g (Spaces.from lo (suc i)) (Spaces.at hi (suc i) + 1 - Spaces.from lo (suc i))) (fun_ext (λ v. ap (λ t. a.not_above low (total a xs t)) (raised_same hi i v)))
       ∙ ap₂ (λ w n. least f w n) up (ap₂ (λ k w. k + 1 - w) (at_same hi i) up ∙ (let z : at hi i + 1 - u ≡ suc (at hi i) - u = omega arith in z))
     where
       f : ℕ → Bool
@@ -179,14 +179,14 @@ module _ (a : Algebra) (xs : List Row) (low high : Row) where
       u = max (at lo i) (after lo i)
 
       up : Spaces.from lo (suc i) ≡ u
-      up = from-same lo i h
+      up = from_same lo i h
 
-  lower-same : (lo hi : List ℕ) (i b : ℕ) → Rising b lo → i < length hi →
+  lower_same : (lo hi : List ℕ) (i b : ℕ) → Rising b lo → i < length hi →
       Spaces.lower a xs high lo hi (suc i) ≡ greatest (λ v. a.not_above (total a xs (lifted lo i v)) high) (at lo i) (suc (before hi i) - at lo i)
-  lower-same lo hi i b r l =
-      greatest-same (Spaces.stays a xs high lo (suc i)) w (at lo i) (w + 1 - Spaces.at lo (suc i)) (λ k. omega (arith, at_same lo i))
-      ∙ ap (λ g. greatest g (at lo i) (w + 1 - Spaces.at lo (suc i))) (fun_ext (λ v. ap (λ t. a.not_above (total a xs t) high) (lowered-same b lo i v r)))
-      ∙ ap (greatest f (at lo i)) (ap₂ (λ w k. w + 1 - k) (upto-same hi i l) (at_same lo i) ∙ (let z : before hi i + 1 - at lo i ≡ suc (before hi i) - at lo i = omega arith in z))
+  lower_same lo hi i b r l =
+      greatest_same (Spaces.stays a xs high lo (suc i)) w (at lo i) (w + 1 - Spaces.at lo (suc i)) (λ k. omega (arith, at_same lo i))
+      ∙ ap (λ g. greatest g (at lo i) (w + 1 - Spaces.at lo (suc i))) (fun_ext (λ v. ap (λ t. a.not_above (total a xs t) high) (lowered_same b lo i v r)))
+      ∙ ap (greatest f (at lo i)) (ap₂ (λ w k. w + 1 - k) (upto_same hi i l) (at_same lo i) ∙ (let z : before hi i + 1 - at lo i ≡ suc (before hi i) - at lo i = omega arith in z))
     where
       f : ℕ → Bool
       f v = a.not_above (total a xs (lifted lo i v)) high
@@ -216,7 +216,7 @@ module _ (a : Algebra) (xs : List Row) (low high : Row) where
   raises_same zero k j lo hi e h = refl
   raises_same (suc n) k j lo hi e h =
       ap (λ i. with_hi hi (Spaces.raise_from a xs low hi i (suc n) lo)) e
-      ∙ ap (λ q. with_hi hi (elim q as (λ _. Option (List ℕ)) [ None ↦ None | Some v ↦ Spaces.raise_from a xs low hi (suc k + 1) n (set lo (suc k - 1) v) ])) (raise-same lo hi k h)
+      ∙ ap (λ q. with_hi hi (elim q as (λ _. Option (List ℕ)) [ None ↦ None | Some v ↦ Spaces.raise_from a xs low hi (suc k + 1) n (set lo (suc k - 1) v) ])) (raise_same lo hi k h)
       ∙ go (least f u (suc (at hi k) - u)) (least_is f u (suc (at hi k) - u)) (λ v l. raises_same n (suc k) (suc k + 1) (set lo k v) hi (omega arith) (set_first lo k v h l))
     where
       f : ℕ → Bool
@@ -235,7 +235,7 @@ module _ (a : Algebra) (xs : List Row) (low high : Row) where
   lowers_same : (n b : ℕ) (lo hi : List ℕ) → Rising b lo → n ≤ length hi → with_lo lo (Spaces.lower_from a xs high lo n hi) ≡ sweep (lower_at a xs low high) (count_down n) (space lo hi)
   lowers_same zero b lo hi r l = refl
   lowers_same (suc n) b lo hi r l =
-      ap (λ q. with_lo lo (elim q as (λ _. Option (List ℕ)) [ None ↦ None | Some v ↦ Spaces.lower_from a xs high lo n (set hi n v) ])) (lower-same lo hi n b r (omega arith))
+      ap (λ q. with_lo lo (elim q as (λ _. Option (List ℕ)) [ None ↦ None | Some v ↦ Spaces.lower_from a xs high lo n (set hi n v) ])) (lower_same lo hi n b r (omega arith))
       ∙ go (greatest (λ v. a.not_above (total a xs (lifted lo n v)) high) (at lo n) (suc (before hi n) - at lo n)) (λ v. lowers_same n b lo (set hi n v) r (omega (arith, length-set hi n v)))
     where
       go : (q : Option ℕ) → ((v : ℕ) → with_lo lo (Spaces.lower_from a xs high lo n (set hi n v)) ≡ sweep (lower_at a xs low high) (count_down n) (space lo (set hi n v))) →
@@ -245,31 +245,31 @@ module _ (a : Algebra) (xs : List Row) (low high : Row) where
       go (Some v) ih = ih v
 
 -- the lowest place of position j in the child with position i at v, x being its lowest place before
-child-one : ℕ → ℕ → ℕ → ℕ → ℕ
-child-one i v j x = cond (ltb j i) x (max x (v + (j - i)))
+child_one : ℕ → ℕ → ℕ → ℕ → ℕ
+child_one i v j x = cond (ltb j i) x (max x (v + (j - i)))
 
-child-each : (i v k d b : ℕ) (s : List ℕ) → k + d ≡ i → Rising b s → at s d ≤ v → each_with (child-one i v) k s ≡ lifted s d v
-unfolding each_with child-one lowered-one
-child-each i v k d b [] e r h = refl
-child-each i v k zero b (x ∷ s) e r h =
+child_each : (i v k d b : ℕ) (s : List ℕ) → k + d ≡ i → Rising b s → at s d ≤ v → each_with (child_one i v) k s ≡ lifted s d v
+unfolding each_with child_one lowered_one
+child_each i v k d b [] e r h = refl
+child_each i v k zero b (x ∷ s) e r h =
     ap₂ (λ z zs. z ∷ zs)
     (cond-false (ltb k i) x (max x (v + (k - i))) (le-ltb k i (omega arith)) ∙ (let z : max x (v + (k - i)) ≡ v = omega arith in z))
-    (each_same (child-one i v) (lowered-one i v) (k + 1) s
+    (each_same (child_one i v) (lowered_one i v) (k + 1) s
     (λ j y l. cond-false (ltb j i) y (max y (v + (j - i))) (le-ltb j i (omega arith)) ∙ (let z : max y (v + (j - i)) ≡ max (v + (j - i)) y = omega arith in z)
     ∙ sym (cond-false (ltb j i) y (cond (eqb j i) v (max (v + (j - i)) y)) (le-ltb j i (omega arith)) ∙ cond-false (eqb j i) v (max (v + (j - i)) y) (ne_eqb j i (λ q. omega arith))))
-    ∙ lowered-past i v (k + 1) v x s (omega arith) (omega arith) r.1)
-child-each i v k (suc d) b (x ∷ s) e r h =
+    ∙ lowered_past i v (k + 1) v x s (omega arith) (omega arith) r.1)
+child_each i v k (suc d) b (x ∷ s) e r h =
     ap₂ (λ z zs. z ∷ zs)
     (cond-true (ltb k i) x (max x (v + (k - i))) (lt-ltb k i (omega arith)))
-    (child-each i v (k + 1) d x s (omega arith) r.1 h)
+    (child_each i v (k + 1) d x s (omega arith) r.1 h)
 
 module _ (a : Algebra) (laws : Laws a) (xs : List Row) (rows : Rows a xs) (low high : Row) (low_own : Own a low) (high_own : Own a high) (m : ℕ) (pos : 0 < m) where
   -- a child at the first open position
-  pub child-same : (t : Space) (i v : ℕ) → Valid (length xs) m t → Opens t.lo t.hi (Some i) → at t.lo i ≤ v → Spaces.child t (1 + i) v ≡ child t i v
-  unfolding child-one
-  child-same t i v w o h =
+  pub child_same : (t : Space) (i v : ℕ) → Valid (length xs) m t → Opens t.lo t.hi (Some i) → at t.lo i ≤ v → Spaces.child t (1 + i) v ≡ child t i v
+  unfolding child_one
+  child_same t i v w o h =
       ap (λ k. Spaces.child t k v) (let z : 1 + i ≡ suc i = omega arith in z)
-      ∙ ap₂ space (by_index (child-one (suc i) v) 1 [] t.lo refl ∙ child-each (suc i) v 1 i 0 t.lo (omega arith) w.rising_lo h)
+      ∙ ap₂ space (by_index (child_one (suc i) v) 1 [] t.lo refl ∙ child_each (suc i) v 1 i 0 t.lo (omega arith) w.rising_lo h)
       (ap (λ k. set t.hi k v) (let z : suc i - 1 ≡ i = omega arith in z) ∙ sym (topped-settled 0 t.lo t.hi i v w.rising_lo w.between o.0 o.2 h))
 
   -- lowers all positions of a space
@@ -284,7 +284,7 @@ module _ (a : Algebra) (laws : Laws a) (xs : List Row) (rows : Rows a xs) (low h
       ∙ go (sweep (raise a xs low high) (count_from 0 (length s.lo)) s) (raises_tight a laws xs rows low high low_own high_own m s (length s.lo) v.size v)
     where
       first : 1 ≤ at s.lo 0
-      first = let l : 0 < length s.lo = omega (arith, v.size) in omega (arith, rising-at 0 s.lo 0 l v.rising_lo)
+      first = let l : 0 < length s.lo = omega (arith, v.size) in omega (arith, rising_at 0 s.lo 0 l v.rising_lo)
 
       joins : (l : List ℕ) (q : Option (List ℕ)) → (elim q as (λ _. Option Space) [ None ↦ None | Some h ↦ Some (space l h) ]) ≡ with_lo a xs low high l q
       joins l None = refl
@@ -303,11 +303,11 @@ module _ (a : Algebra) (laws : Laws a) (xs : List Row) (rows : Rows a xs) (low h
           ∙ ap (λ n. sweep (lower_at a xs low high) (count_down n) t) (h.valid.size ∙ sym v.size)
           ∙ lower_sweeps a xs low high m t (length s.lo) v.size h.valid
 
-  pub squeeze-same : (n : ℕ) (s : Space) → Valid (length xs) m s → Spaces.squeeze a xs low high n s ≡ squeeze a xs low high n s
-  squeeze-same zero s v = pass_same s v
-  squeeze-same (suc n) s v =
+  pub squeeze_same : (n : ℕ) (s : Space) → Valid (length xs) m s → Spaces.squeeze a xs low high n s ≡ squeeze a xs low high n s
+  squeeze_same zero s v = pass_same s v
+  squeeze_same (suc n) s v =
       ap (λ q. elim q as (λ _. Option Space) [ None ↦ None | Some t ↦ cond (same s.lo t.lo && same s.hi t.hi) (Some t) (Spaces.squeeze a xs low high n t) ]) (pass_same s v)
-      ∙ go (pass a xs low high s) (pass_tight a laws xs rows low high low_own high_own m s v) (squeeze-same n)
+      ∙ go (pass a xs low high s) (pass_tight a laws xs rows low high low_own high_own m s v) (squeeze_same n)
     where
       go : (q : Option Space) → Tight (Solves a xs low high) (length xs) m s q → ((t : Space) → Valid (length xs) m t → Spaces.squeeze a xs low high n t ≡ squeeze a xs low high n t) →
           (elim q as (λ _. Option Space) [ None ↦ None | Some t ↦ cond (same s.lo t.lo && same s.hi t.hi) (Some t) (Spaces.squeeze a xs low high n t) ])
@@ -316,8 +316,8 @@ module _ (a : Algebra) (laws : Laws a) (xs : List Row) (rows : Rows a xs) (low h
       go (Some t) h ih = ap (cond (same s.lo t.lo && same s.hi t.hi) (Some t)) (ih t h.valid)
 
   -- squeezing with the widths for a bound on the passes
-  pub squeezed-same : (s : Space) → Valid (length xs) m s → Spaces.squeeze a xs low high (Spaces.widths s.lo s.hi) s ≡ squeezed a xs low high s
-  squeezed-same s v = ap (λ n. Spaces.squeeze a xs low high n s) (widths-same s.lo s.hi v.between) ∙ squeeze-same (widths s.lo s.hi) s v
+  pub squeezed_same : (s : Space) → Valid (length xs) m s → Spaces.squeeze a xs low high (Spaces.widths s.lo s.hi) s ≡ squeezed a xs low high s
+  squeezed_same s v = ap (λ n. Spaces.squeeze a xs low high n s) (widths_same s.lo s.hi v.between) ∙ squeeze_same (widths s.lo s.hi) s v
 
   -- the items of a squeezed space, given its first open position, which counts from 1
   abbrev split_from_1 : ℕ → Space → Option ℕ → Trace.Trace
@@ -327,11 +327,11 @@ module _ (a : Algebra) (laws : Laws a) (xs : List Row) (rows : Rows a xs) (low h
   abbrev examined_from_1 : ℕ → Option Space → Trace.Trace
   examined_from_1 d q = elim q as (λ _. Trace.Trace) [ None ↦ None ∷ [] | Some t ↦ split_from_1 d t (Spaces.open_at 1 t.lo t.hi) ]
 
-  pub explore-same : (d : ℕ) (s : Space) → Valid (length xs) m s → Trace.explore a xs low high d s ≡ explore a xs low high d s
-  explore-same zero s v = refl
-  explore-same (suc d) s v =
-      ap (examined_from_1 d) (squeezed-same s v)
-      ∙ go (squeezed a xs low high s) (squeeze_tight a laws xs rows low high low_own high_own m (widths s.lo s.hi) s v) (explore-same d)
+  pub explore_same : (d : ℕ) (s : Space) → Valid (length xs) m s → Trace.explore a xs low high d s ≡ explore a xs low high d s
+  explore_same zero s v = refl
+  explore_same (suc d) s v =
+      ap (examined_from_1 d) (squeezed_same s v)
+      ∙ go (squeezed a xs low high s) (squeeze_tight a laws xs rows low high low_own high_own m (widths s.lo s.hi) s v) (explore_same d)
     where
       go : (q : Option Space) → Tight (Solves a xs low high) (length xs) m s q → ((t : Space) → Valid (length xs) m t → Trace.explore a xs low high d t ≡ explore a xs low high d t) → examined_from_1 d q ≡ examined (explore a xs low high d) q
       go None h ih = refl
@@ -348,18 +348,18 @@ module _ (a : Algebra) (laws : Laws a) (xs : List Row) (rows : Rows a xs) (low h
               (concat_is f (range_with_len (Spaces.at t.lo (1 + i)) (Spaces.at t.hi (1 + i) + 1 - Spaces.at t.lo (1 + i)))
               ∙ ap (flat_map f) (ap (λ j. range_with_len (get_or t.lo j 0) (get_or t.hi j 0 + 1 - get_or t.lo j 0)) k ∙ counting_is (at t.lo i) (at t.hi i + 1 - at t.lo i) ∙ ap (count_from (at t.lo i)) (let z : at t.hi i + 1 - at t.lo i ≡ suc (at t.hi i) - at t.lo i = omega arith in z))
               ∙ joined_same f (λ v. explore a xs low high d (child t i v)) (λ v. (at t.lo i ≤ v) × (v ≤ at t.hi i))
-              (λ v b. ap (Trace.explore a xs low high d) (child-same t i v h.valid o b.0) ∙ ih (child t i v) (child-valid (length xs) m t i v h.valid il b.0 b.1)) vs (values t i o.1))
+              (λ v b. ap (Trace.explore a xs low high d) (child_same t i v h.valid o b.0) ∙ ih (child t i v) (child_valid (length xs) m t i v h.valid il b.0 b.1)) vs (values t i o.1))
 
   -- the two forms have one trace
-  pub trace-same : m ≤ length xs → Trace.trace a xs low high m ≡ trace a xs low high m
-  trace-same l =
+  pub trace_same : m ≤ length xs → Trace.trace a xs low high m ≡ trace a xs low high m
+  trace_same l =
       ap₂ (λ d s. Trace.explore a xs low high d s) (add-one m) (ap₂ space (counting_is 1 m) (ap (λ k. range_with_len k m) (add-one (length xs - m)) ∙ counting_is (suc (length xs - m)) m))
-      ∙ explore-same (suc m) (space (count_from 1 m) (count_from (suc (length xs - m)) m)) (start-valid a laws xs rows low high low_own high_own m l)
+      ∙ explore_same (suc m) (space (count_from 1 m) (count_from (suc (length xs - m)) m)) (start_valid a laws xs rows low high low_own high_own m l)
 
   -- the sets of a trace are the solutions, each once and in order
   pub finds : m ≤ length xs → somes (Trace.trace a xs low high m) ≡ solutions a xs m low high
-  finds l = ap somes (trace-same l) ∙ trace-finds a laws xs rows low high low_own high_own m pos l
+  finds l = ap somes (trace_same l) ∙ trace_finds a laws xs rows low high low_own high_own m pos l
 
   -- a trace is shorter than twice the number of sets
   pub counts : m ≤ length xs → length (Trace.trace a xs low high m) ≤ 2 * length (sets 1 (length xs) m) - 1
-  counts l = omega (arith, ap length (trace-same l), trace-counts a laws xs rows low high low_own high_own m l)
+  counts l = omega (arith, ap length (trace_same l), trace_counts a laws xs rows low high low_own high_own m l)

@@ -70,9 +70,9 @@ raised-nothing (one m) = ap (λ z. z ∷ []) (column_nothing m)
 raised-nothing (more m a) = ap₂ (λ z zs. z ∷ zs) (column_nothing m) (raised-nothing a)
 
 -- rows raised alike stand as before
-pub raised-order : {k : ℕ} {α x y : Row} → Wide k α → Wide k x → Wide k y → (p : ℕ) → (amounts k).not_above (raised α p x) (raised α p y) ≡ (amounts k).not_above x y
-raised-order (one m) (one v) (one w) p = column_order m v w p
-raised-order (more m a) (more v b) (more w c) p = ap₂ (λ s t. s && t) (column_order m v w p) (raised-order a b c p)
+pub raised_order : {k : ℕ} {α x y : Row} → Wide k α → Wide k x → Wide k y → (p : ℕ) → (amounts k).not_above (raised α p x) (raised α p y) ≡ (amounts k).not_above x y
+raised_order (one m) (one v) (one w) p = column_order m v w p
+raised_order (more m a) (more v b) (more w c) p = ap₂ (λ s t. s && t) (column_order m v w p) (raised_order a b c p)
 
 -- a row raised once more than the one before it is not below that one, if their fall is not above α
 pub raised-climbs : {k : ℕ} {α x y s : Row} → Wide k α → Wide k x → Wide k y → Wide k s → (p : ℕ) → NotAbove (amounts k) (part_by_part int_max (part_by_part ◌-ℤ◌ x y) s) α → NotAbove (amounts k) (raised α p x) (raised α (suc p) y)

@@ -12,7 +12,7 @@ use Rattle.sets.specs.Sets.{Rows, sets, complement, total, at_place, in_band, so
 use Rattle.sets.proofs.Forms.{count_from}
 use Rattle.sets.proofs.Vectors.{Rising, Upto, rising_weaker}
 use Rattle.sets.proofs.Members.{Among}
-use Rattle.sets.proofs.Complements.{complement_here, complement-past, complements_of_sets}
+use Rattle.sets.proofs.Complements.{complement_here, complement_past, complements_of_sets}
 use Rattle.sets.proofs.Totals.{place-own, total-own}
 use Rattle.sets.proofs.Choices.{counting_is}
 use Rattle.sets.proofs.Kept.{bool_same}
@@ -34,17 +34,17 @@ complement-upto k b (suc n) (q ∷ s) l =
     (λ e. complement-upto k (suc b) n s (omega arith))
     (λ e. (omega arith, complement-upto k (suc b) n (q ∷ s) (omega arith)))
 
-map-kept : {X Y : Type 0} (f : X → Y) (p : X → Bool) (q : Y → Bool) (xs : List X) → AllByRecursion (λ x. q (f x) ≡ p x) xs → map f (filter p xs) ≡ filter q (map f xs)
-map-kept f p q [] h = refl
-map-kept f p q (x ∷ xs) h = step (p x) (q (f x)) h.0 (map-kept f p q xs h.1)
+map_kept : {X Y : Type 0} (f : X → Y) (p : X → Bool) (q : Y → Bool) (xs : List X) → AllByRecursion (λ x. q (f x) ≡ p x) xs → map f (filter p xs) ≡ filter q (map f xs)
+map_kept f p q [] h = refl
+map_kept f p q (x ∷ xs) h = step (p x) (q (f x)) h.0 (map_kept f p q xs h.1)
   where
     step : (b c : Bool) → c ≡ b → map f (filter p xs) ≡ filter q (map f xs) → map f (cond b (x ∷ filter p xs) (filter p xs)) ≡ cond c (f x ∷ filter q (map f xs)) (filter q (map f xs))
     step true c e ih = ap (λ ys. f x ∷ ys) ih ∙ ap (λ d. cond d (f x ∷ filter q (map f xs)) (filter q (map f xs))) (sym e)
     step false c e ih = ih ∙ ap (λ d. cond d (f x ∷ filter q (map f xs)) (filter q (map f xs))) (sym e)
 
-kept-reverse : {X : Type 0} (p : X → Bool) (xs : List X) → filter p (reverse xs) ≡ reverse (filter p xs)
-kept-reverse p [] = refl
-kept-reverse p (x ∷ xs) = ap (filter p) (reverse-cons x xs) ∙ filter-append p (reverse xs) (x ∷ []) ∙ ap (λ ys. ys ++ filter p (x ∷ [])) (kept-reverse p xs) ∙ step (p x)
+kept_reverse : {X : Type 0} (p : X → Bool) (xs : List X) → filter p (reverse xs) ≡ reverse (filter p xs)
+kept_reverse p [] = refl
+kept_reverse p (x ∷ xs) = ap (filter p) (reverse-cons x xs) ∙ filter-append p (reverse xs) (x ∷ []) ∙ ap (λ ys. ys ++ filter p (x ∷ [])) (kept_reverse p xs) ∙ step (p x)
   where
     step : (b : Bool) → reverse (filter p xs) ++ cond b (x ∷ []) [] ≡ reverse (cond b (x ∷ filter p xs) (filter p xs))
     step true = sym (reverse-cons x (filter p xs))
@@ -97,16 +97,16 @@ module _ (a : Algebra) (laws : Laws a) where
 
   module _ (xs : List Row) (rows : Rows a xs) where
     -- a set and its complement make all
-    total-both : (b n : ℕ) (s : List ℕ) → b + n ≤ length xs → Rising b s → Upto (b + n) s → a.plus (total a xs s) (total a xs (complement (suc b) n s)) ≡ total a xs (count_from (suc b) n)
-    total-both b zero [] l r u = laws.plus_nothing a.nothing laws.nothing_own
-    total-both b zero (q ∷ s) l r u = absurd (omega (arith, r.0, u.0))
-    total-both b (suc n) [] l r u =
+    total_both : (b n : ℕ) (s : List ℕ) → b + n ≤ length xs → Rising b s → Upto (b + n) s → a.plus (total a xs s) (total a xs (complement (suc b) n s)) ≡ total a xs (count_from (suc b) n)
+    total_both b zero [] l r u = laws.plus_nothing a.nothing laws.nothing_own
+    total_both b zero (q ∷ s) l r u = absurd (omega (arith, r.0, u.0))
+    total_both b (suc n) [] l r u =
         let P : Row = at_place xs (suc b) in
         let K : Row = total a xs (complement (suc (suc b)) n []) in
         let oP : Own a P = place-own a laws xs rows (suc b) (omega arith) (omega arith) in
         let oK : Own a K = total-own a laws xs rows (suc b) (complement (suc (suc b)) n []) (complement-rising (suc b) n []) (complement-upto (length xs) (suc b) n [] (omega arith)) in
-        swap a.nothing P K laws.nothing_own oP oK ∙ ap (λ w. a.plus P w) (total-both (suc b) n [] (omega arith) tt tt)
-    total-both b (suc n) (q ∷ s) l r u =
+        swap a.nothing P K laws.nothing_own oP oK ∙ ap (λ w. a.plus P w) (total_both (suc b) n [] (omega arith) tt tt)
+    total_both b (suc n) (q ∷ s) l r u =
         let P : Row = at_place xs (suc b) in
         let oP : Own a P = place-own a laws xs rows (suc b) (omega arith) (omega arith) in
         let e : b + suc n ≡ suc b + n = omega arith in
@@ -121,15 +121,15 @@ module _ (a : Algebra) (laws : Laws a) where
               let oK : Own a K = total-own a laws xs rows (suc b) (complement (suc (suc b)) n s) (complement-rising (suc b) n s) (complement-upto (length xs) (suc b) n s (omega arith)) in
               ap (λ x. a.plus (total a xs (x ∷ s)) (total a xs (complement (suc b) (suc n) (x ∷ s)))) (sym p)
               ∙ ap (λ t. a.plus (a.plus P S) (total a xs t)) (complement_here (suc b) n s)
-              ∙ laws.plus_assoc P S K oP oS oK ∙ ap (λ w. a.plus P w) (total-both (suc b) n s (omega arith) rs up.1)
+              ∙ laws.plus_assoc P S K oP oS oK ∙ ap (λ w. a.plus P w) (total_both (suc b) n s (omega arith) rs up.1)
           | inr p ↦
               let rs : Rising (suc b) (q ∷ s) = (omega (arith, r.0), r.1) in
               let S : Row = total a xs (q ∷ s) in
               let K : Row = total a xs (complement (suc (suc b)) n (q ∷ s)) in
               let oS : Own a S = total-own a laws xs rows (suc b) (q ∷ s) rs upx in
               let oK : Own a K = total-own a laws xs rows (suc b) (complement (suc (suc b)) n (q ∷ s)) (complement-rising (suc b) n (q ∷ s)) (complement-upto (length xs) (suc b) n (q ∷ s) (omega arith)) in
-              ap (λ t. a.plus S (total a xs t)) (complement-past (suc b) n (q ∷ s) rs)
-              ∙ swap S P K oS oP oK ∙ ap (λ w. a.plus P w) (total-both (suc b) n (q ∷ s) (omega arith) rs up)
+              ap (λ t. a.plus S (total a xs t)) (complement_past (suc b) n (q ∷ s) rs)
+              ∙ swap S P K oS oP oK ∙ ap (λ w. a.plus P w) (total_both (suc b) n (q ∷ s) (omega arith) rs up)
         ]
 
     -- the total of all entries
@@ -144,8 +144,8 @@ module _ (a : Algebra) (laws : Laws a) where
 
     module _ (low high : Row) (low_own : Own a low) (high_own : Own a high) where
       -- the complement's total is in the turned band where the set's is in the band
-      pub complement-band : (m : ℕ) (s : List ℕ) → Among 0 (length xs) m s → in_band a (minus a all high) (minus a all low) (total a xs (complement 1 (length xs) s)) ≡ in_band a low high (total a xs s)
-      complement-band m s h =
+      pub complement_band : (m : ℕ) (s : List ℕ) → Among 0 (length xs) m s → in_band a (minus a all high) (minus a all low) (total a xs (complement 1 (length xs) s)) ≡ in_band a low high (total a xs s)
+      complement_band m s h =
           ap (in_band a (minus a all high) (minus a all low)) is
           ∙ bool_same (in_band a (minus a all high) (minus a all low) (minus a all x)) (in_band a low high x)
           (λ e. let p = and_parts (a.not_above (minus a all high) (minus a all x)) (a.not_above (minus a all x) (minus a all low)) e in
@@ -166,12 +166,12 @@ module _ (a : Algebra) (laws : Laws a) where
           ok = total-own a laws xs rows 0 (complement 1 (length xs) s) (complement-rising 0 (length xs) s) (complement-upto (length xs) 0 (length xs) s (omega arith))
 
           is : k ≡ minus a all x
-          is = rest_is x k all ox ok (total-both 0 (length xs) s (omega arith) h.rising (subst (λ j. Upto j s) (let e : length xs ≡ 0 + length xs = omega arith in e) h.upto) ∙ all_is)
+          is = rest_is x k all ox ok (total_both 0 (length xs) s (omega arith) h.rising (subst (λ j. Upto j s) (let e : length xs ≡ 0 + length xs = omega arith in e) h.upto) ∙ all_is)
 
       -- the complements of the solutions solve the turned problem, in the turned order
       pub complement-solutions : (m : ℕ) → m ≤ length xs → map (complement 1 (length xs)) (solutions a xs m low high) ≡ reverse (solutions a xs (length xs - m) (minus a all high) (minus a all low))
       complement-solutions m l =
-          map-kept (complement 1 (length xs)) (λ s. in_band a low high (total a xs s)) (λ s. in_band a (minus a all high) (minus a all low) (total a xs s)) (sets 1 (length xs) m)
-          (All-weaker (Among 0 (length xs) m) (λ s. in_band a (minus a all high) (minus a all low) (total a xs (complement 1 (length xs) s)) ≡ in_band a low high (total a xs s)) (complement-band m) (sets 1 (length xs) m) (members (length xs) m))
+          map_kept (complement 1 (length xs)) (λ s. in_band a low high (total a xs s)) (λ s. in_band a (minus a all high) (minus a all low) (total a xs s)) (sets 1 (length xs) m)
+          (All-weaker (Among 0 (length xs) m) (λ s. in_band a (minus a all high) (minus a all low) (total a xs (complement 1 (length xs) s)) ≡ in_band a low high (total a xs s)) (complement_band m) (sets 1 (length xs) m) (members (length xs) m))
           ∙ ap (filter (λ s. in_band a (minus a all high) (minus a all low) (total a xs s))) (complements_of_sets (length xs) m l)
-          ∙ kept-reverse (λ s. in_band a (minus a all high) (minus a all low) (total a xs s)) (sets 1 (length xs) (length xs - m))
+          ∙ kept_reverse (λ s. in_band a (minus a all high) (minus a all low) (total a xs s)) (sets 1 (length xs) (length xs - m))

@@ -1,4 +1,4 @@
--- What `least`, `greatest`, `count-from`, `count_down`, `same` and `widths` answer.
+-- What `least`, `greatest`, `count_from`, `count_down`, `same` and `widths` answer.
 use Rattle.std.proofs.Common.{◌≡◌, ℕ, zero, suc, ◌+◌, ◌<◌, ◌≤◌, Bool, true, false, cond, eqb, List, [], ◌∷◌, Some, None, Option, refl, ap, ◌∙◌, subst, ap₂, inl, inr, add-one, arith}
 use Rattle.std.specs.List.{range_with_len, AllByRecursion}
 use Rattle.std.proofs.ByRecursion.{All-weaker}

@@ -23,9 +23,9 @@ map-reverse f (x ∷ xs) = ap (map f) (reverse-cons x xs) ∙ map-append f (reve
 pub complement_here : (p n : ℕ) (s : List ℕ) → complement p (suc n) (p ∷ s) ≡ complement (suc p) n s
 complement_here p n s = cond-true (eqb p p) (complement (suc p) n s) (p ∷ complement (suc p) n (p ∷ s)) (eq-eqb p p refl)
 
-pub complement-past : (p n : ℕ) (s : List ℕ) → Rising p s → complement p (suc n) s ≡ p ∷ complement (suc p) n s
-complement-past p n [] r = refl
-complement-past p n (q ∷ s) r = cond-false (eqb p q) (complement (suc p) n s) (p ∷ complement (suc p) n (q ∷ s)) (ne_eqb p q (λ e. omega (arith, r.0)))
+pub complement_past : (p n : ℕ) (s : List ℕ) → Rising p s → complement p (suc n) s ≡ p ∷ complement (suc p) n s
+complement_past p n [] r = refl
+complement_past p n (q ∷ s) r = cond-false (eqb p q) (complement (suc p) n s) (p ∷ complement (suc p) n (q ∷ s)) (ne_eqb p q (λ e. omega (arith, r.0)))
 
 none_of_more : (p n m : ℕ) → n < m → sets p n m ≡ []
 none_of_more p n zero l = absurd (omega arith)
@@ -60,7 +60,7 @@ complements b (suc n) (suc m) (suc k) e =
     ∙ map_same (λ s. complement p (suc n) (p ∷ s)) (complement (suc p) n) (Among p (p + n) m) (λ s _. complement_here p n s) A (sets_among p n m)
     ∙ complements p n m (suc k) (omega arith) in
     let without : map (complement p (suc n)) B ≡ reverse (map (λ s. p ∷ s) (sets (suc p) n k)) =
-    map_same (complement p (suc n)) (λ s. p ∷ complement (suc p) n s) (Among p (p + n) (suc m)) (λ s h. complement-past p n s h.rising) B (sets_among p n (suc m))
+    map_same (complement p (suc n)) (λ s. p ∷ complement (suc p) n s) (Among p (p + n) (suc m)) (λ s h. complement_past p n s h.rising) B (sets_among p n (suc m))
     ∙ sym (map-map (λ s. p ∷ s) (complement (suc p) n) B)
     ∙ ap (map (λ s. p ∷ s)) (complements p n (suc m) k (omega arith))
     ∙ map-reverse (λ s. p ∷ s) (sets (suc p) n k) in

@@ -13,10 +13,10 @@ use Rattle.sets.specs.Crossings.{cell, column_total, Lies, Before, Crosses, Solv
 use Rattle.sets.proofs.Vectors.{Rising, Upto}
 use Rattle.sets.proofs.Members.{all_of, all_in, lex_irreflexive, sets_sorted}
 use Rattle.sets.proofs.Kept.{is_false, kept_same, joined_same}
-use Rattle.sets.proofs.Trace.{members, is_member, somes-joined}
+use Rattle.sets.proofs.Trace.{members, is_member, somes-flat_map}
 use Rattle.sets.proofs.Agreement.{finds, counts}
-use Rattle.sets.proofs.Amounts.{raised, Wide, more, own_wide, wide_own, part_wide, nothing_wide, amounts_laws, raised-plus, raised-nothing, raised-order, raised-climbs, steeper, length-own, nothing_column, plus_column, above_column, column_above}
-use Rattle.sets.proofs.Listed.{in_kept, kept_in, in_joined, joined_in, sorted_kept, sorted_among, sorted_joined, length-joined_le}
+use Rattle.sets.proofs.Amounts.{raised, Wide, more, own_wide, wide_own, part_wide, nothing_wide, amounts_laws, raised-plus, raised-nothing, raised_order, raised-climbs, steeper, length-own, nothing_column, plus_column, above_column, column_above}
+use Rattle.sets.proofs.Listed.{in_kept, kept_in, in_joined, joined_in, sorted_kept, sorted_among, sorted_joined, length-flat_map_le}
 use Rattle.sets.proofs.Ranks.{rank_totals_are, in_rank_totals, length-rank_totals}
 
 -- the falls are a row of k + 1 numbers
@@ -29,14 +29,14 @@ shadows-length : (α : Row) (p : ℕ) (xs : List Row) → length (shadows α p x
 shadows-length α p [] = refl
 shadows-length α p (x ∷ xs) = ap suc (shadows-length α (suc p) xs)
 
-shadows-at : (α : Row) (p : ℕ) (xs : List Row) (i : ℕ) → i < length xs → get_or (shadows α p xs) i [] ≡ shadow α (p + i) (get_or xs i [])
-shadows-at α p [] i l = absurd (omega arith)
-shadows-at α p (x ∷ xs) zero l = let e : p ≡ p + 0 = omega arith in ap (λ q. shadow α q x) e
-shadows-at α p (x ∷ xs) (suc i) l = let e : suc p + i ≡ p + suc i = omega arith in shadows-at α (suc p) xs i (omega arith) ∙ ap (λ q. shadow α q (get_or xs i [])) e
+shadows_at : (α : Row) (p : ℕ) (xs : List Row) (i : ℕ) → i < length xs → get_or (shadows α p xs) i [] ≡ shadow α (p + i) (get_or xs i [])
+shadows_at α p [] i l = absurd (omega arith)
+shadows_at α p (x ∷ xs) zero l = let e : p ≡ p + 0 = omega arith in ap (λ q. shadow α q x) e
+shadows_at α p (x ∷ xs) (suc i) l = let e : suc p + i ≡ p + suc i = omega arith in shadows_at α (suc p) xs i (omega arith) ∙ ap (λ q. shadow α q (get_or xs i [])) e
 
 -- the entry at a place is shadowed by that place
 shadow-place : (α : Row) (xs : List Row) (p : ℕ) → 0 < p → p ≤ length xs → at_place (shadows α 1 xs) p ≡ shadow α p (at_place xs p)
-shadow-place α xs p l h = let e : 1 + (p - 1) ≡ p = omega arith in shadows-at α 1 xs (p - 1) (omega arith) ∙ ap (λ q. shadow α q (at_place xs p)) e
+shadow-place α xs p l h = let e : 1 + (p - 1) ≡ p = omega arith in shadows_at α 1 xs (p - 1) (omega arith) ∙ ap (λ q. shadow α q (at_place xs p)) e
 
 shadow-own : {k : ℕ} {α x : Row} → Wide k α → Wide k x → (r : ℕ) → Own (amounts (suc k)) (shadow α r x)
 shadow-own a b r = wide_own (more (pos r) (part_wide (λ m v. v +ℤ m *ℤ pos r) a b))
@@ -56,8 +56,8 @@ shadows_climb k α a p (x ∷ y ∷ xs) o h =
     (and_from (leb p (suc p)) ((amounts k).not_above (raised α p x) (raised α (suc p) y)) (le-leb p (suc p) (omega arith)) (raised-climbs a wx wy ws p h), shadows_climb k α a (suc p) (y ∷ xs) o.1 (steeper a (part_wide ◌-ℤ◌ wx wy) ws h))
 
 -- what is searched is what a straight search asks for
-shadow-rows : (k : ℕ) (xs : List Row) → AllByRecursion (Own (amounts k)) xs → Rows (amounts (suc k)) (shadows (falls k xs) 1 xs)
-shadow-rows k xs o =
+shadow_rows : (k : ℕ) (xs : List Row) → AllByRecursion (Own (amounts k)) xs → Rows (amounts (suc k)) (shadows (falls k xs) 1 xs)
+shadow_rows k xs o =
     let a : Wide k (falls k xs) = falls_wide k xs o in
     record { own = shadows-own k (falls k xs) a 1 xs o; climbs = shadows_climb k (falls k xs) a 1 xs o ((amounts_laws k).reflexive (falls k xs) (wide_own a)) }
 
@@ -85,11 +85,11 @@ module _ (k : ℕ) (α low high t : Row) (a : Wide k α) (l : Wide k low) (h : W
   -- with the rank total of the band, a row lies in the shadowed band just if it lies in the band
   band_here : (β : ℕ) → in_band (amounts (suc k)) (shadow α β low) (shadow α β high) (shadow α β t) ≡ in_band (amounts k) low high t
   band_here β = ap₂ (λ x y. (x && (amounts k).not_above (raised α β low) (raised α β t)) && (y && (amounts k).not_above (raised α β t) (raised α β high))) (le-leb β β (omega arith)) (le-leb β β (omega arith))
-      ∙ ap₂ (λ x y. x && y) (raised-order a l w β) (raised-order a w h β)
+      ∙ ap₂ (λ x y. x && y) (raised_order a l w β) (raised_order a w h β)
 
   -- with another rank total, it does not
-  band-same : (β r : ℕ) → in_band (amounts (suc k)) (shadow α β low) (shadow α β high) (shadow α r t) ≡ true → r ≡ β
-  band-same β r e =
+  band_same : (β r : ℕ) → in_band (amounts (suc k)) (shadow α β low) (shadow α β high) (shadow α r t) ≡ true → r ≡ β
+  band_same β r e =
       let p = and_parts ((amounts (suc k)).not_above (shadow α β low) (shadow α r t)) ((amounts (suc k)).not_above (shadow α r t) (shadow α β high)) e in
       let q = and_parts (leb β r) ((amounts k).not_above (raised α β low) (raised α r t)) p.0 in
       let s = and_parts (leb r β) ((amounts k).not_above (raised α r t) (raised α β high)) p.1 in
@@ -98,7 +98,7 @@ module _ (k : ℕ) (α low high t : Row) (a : Wide k α) (l : Wide k low) (h : W
   band_is : (β r : ℕ) → in_band (amounts (suc k)) (shadow α β low) (shadow α β high) (shadow α r t) ≡ (in_band (amounts k) low high t && eqb r β)
   band_is β r = elim (cases_eq r β) [
     | inl e ↦ ap (λ q. in_band (amounts (suc k)) (shadow α β low) (shadow α β high) (shadow α q t)) e ∙ band_here β ∙ sym (ap (λ b. in_band (amounts k) low high t && b) (eq-eqb r β e) ∙ and_true (in_band (amounts k) low high t))
-    | inr e ↦ is_false (in_band (amounts (suc k)) (shadow α β low) (shadow α β high) (shadow α r t)) (λ f. e (band-same β r f)) ∙ sym (and_right (in_band (amounts k) low high t) (eqb r β) (ne_eqb r β e))
+    | inr e ↦ is_false (in_band (amounts (suc k)) (shadow α β low) (shadow α β high) (shadow α r t)) (λ f. e (band_same β r f)) ∙ sym (and_right (in_band (amounts k) low high t) (eqb r β) (ne_eqb r β e))
   ]
     where
       and_true : (b : Bool) → (b && true) ≡ b
@@ -137,9 +137,9 @@ module _ (k : ℕ) (xs : List Row) (low high : Row) (m : ℕ) (c : Crosses k xs 
   set_wide : (s : List ℕ) → Among 0 (length xs) m s → Wide k (total (amounts k) xs s)
   set_wide s h = total_wide k xs own-entries 0 s h.rising h.upto
 
-  set-band : (β : ℕ) (s : List ℕ) → Among 0 (length xs) m s → in_band (amounts (suc k)) (shadow α β low) (shadow α β high) (total (amounts (suc k)) (shadows α 1 xs) s) ≡ (good s && eqb (place_sum s) β)
+  set_band : (β : ℕ) (s : List ℕ) → Among 0 (length xs) m s → in_band (amounts (suc k)) (shadow α β low) (shadow α β high) (total (amounts (suc k)) (shadows α 1 xs) s) ≡ (good s && eqb (place_sum s) β)
   unfolding good
-  set-band β s h =
+  set_band β s h =
       ap (in_band (amounts (suc k)) (shadow α β low) (shadow α β high)) (shadow-total k xs own-entries α wα 0 s h.rising h.upto)
       ∙ band_is k α low high (total (amounts k) xs s) wα (own_wide k low own-low) (own_wide k high own-high) (set_wide s h) β (place_sum s)
 
@@ -150,22 +150,22 @@ module _ (k : ℕ) (xs : List Row) (low high : Row) (m : ℕ) (c : Crosses k xs 
   part : ℕ → List (List ℕ)
   part β = filter (λ s. good s && eqb (place_sum s) β) (sets 1 (length xs) m)
 
-  straight-finds : (β : ℕ) → somes (straight β) ≡ part β
+  straight_finds : (β : ℕ) → somes (straight β) ≡ part β
   unfolding α straight part
-  straight-finds β =
-      finds (amounts (suc k)) (amounts_laws (suc k)) (shadows α 1 xs) (shadow-rows k xs own-entries) (shadow α β low) (shadow α β high) (shadow-own wα (own_wide k low own-low) β) (shadow-own wα (own_wide k high own-high) β) m c.some (subst (λ n. m ≤ n) (sym (shadows-length α 1 xs)) c.room)
+  straight_finds β =
+      finds (amounts (suc k)) (amounts_laws (suc k)) (shadows α 1 xs) (shadow_rows k xs own-entries) (shadow α β low) (shadow α β high) (shadow-own wα (own_wide k low own-low) β) (shadow-own wα (own_wide k high own-high) β) m c.some (subst (λ n. m ≤ n) (sym (shadows-length α 1 xs)) c.room)
       ∙ ap (λ n. filter (λ s. in_band (amounts (suc k)) (shadow α β low) (shadow α β high) (total (amounts (suc k)) (shadows α 1 xs) s)) (sets 1 n m)) (shadows-length α 1 xs)
       ∙ kept_same (λ s. in_band (amounts (suc k)) (shadow α β low) (shadow α β high) (total (amounts (suc k)) (shadows α 1 xs) s)) (λ s. good s && eqb (place_sum s) β) (sets 1 (length xs) m)
-      (All-weaker (Among 0 (length xs) m) (λ s. in_band (amounts (suc k)) (shadow α β low) (shadow α β high) (total (amounts (suc k)) (shadows α 1 xs) s) ≡ (good s && eqb (place_sum s) β)) (λ s h. set-band β s h) (sets 1 (length xs) m) (members (length xs) m))
+      (All-weaker (Among 0 (length xs) m) (λ s. in_band (amounts (suc k)) (shadow α β low) (shadow α β high) (total (amounts (suc k)) (shadows α 1 xs) s) ≡ (good s && eqb (place_sum s) β)) (λ s h. set_band β s h) (sets 1 (length xs) m) (members (length xs) m))
 
   pub crossed_finds : somes (crossed k xs low high m) ≡ crossed_solutions k xs low high m
   unfolding α straight part good
-  crossed_finds = somes-joined straight (rank_totals (length xs) m) ∙ joined_same (λ β. somes (straight β)) part (λ β. Unit {0}) (λ β u. straight-finds β) (rank_totals (length xs) m) (all_of (λ β. Unit {0}) (λ β. tt) (rank_totals (length xs) m))
+  crossed_finds = somes-flat_map straight (rank_totals (length xs) m) ∙ joined_same (λ β. somes (straight β)) part (λ β. Unit {0}) (λ β u. straight_finds β) (rank_totals (length xs) m) (all_of (λ β. Unit {0}) (λ β. tt) (rank_totals (length xs) m))
 
   -- in the band as a row, and in each column
-  lies-from : (s : List ℕ) → Among 0 (length xs) m s → good s ≡ true → Lies k xs low high s
+  lies_from : (s : List ℕ) → Among 0 (length xs) m s → good s ≡ true → Lies k xs low high s
   unfolding good
-  lies-from s h e c l =
+  lies_from s h e c l =
       let w : Wide k (total (amounts k) xs s) = set_wide s h in
       let b = and_parts ((amounts k).not_above low (total (amounts k) xs s)) ((amounts k).not_above (total (amounts k) xs s) high) e in
       let t : cell c (total (amounts k) xs s) ≡ column_total c xs s = total_column k xs own-entries 0 s h.rising h.upto c l in
@@ -185,7 +185,7 @@ module _ (k : ℕ) (xs : List Row) (low high : Row) (m : ℕ) (c : Crosses k xs 
   crossed_sound s i =
       let j = in_joined part s (rank_totals (length xs) m) (subst (In s) crossed_finds i) in
       let q = in_kept (λ s. good s && eqb (place_sum s) j.0) s (sets 1 (length xs) m) j.1.1 in
-      record { places = is_among s q.0; lies = lies-from s (is_among s q.0) (and_parts (good s) (eqb (place_sum s) j.0) q.1).0 }
+      record { places = is_among s q.0; lies = lies_from s (is_among s q.0) (and_parts (good s) (eqb (place_sum s) j.0) q.1).0 }
 
   pub crossed_complete : (s : List ℕ) → Solves k xs low high m s → In s (somes (crossed k xs low high m))
   unfolding part good
@@ -210,11 +210,11 @@ module _ (k : ℕ) (xs : List Row) (low high : Row) (m : ℕ) (c : Crosses k xs 
   pub crossed_once : Distinct (somes (crossed k xs low high m))
   crossed_once = sorted_among Before (λ s t. s ≡ t → ⊥) (λ s. Unit {0}) (λ s t u v b e. before_irreflexive s (subst (Before s) (sym e) b)) (somes (crossed k xs low high m)) (all_of (λ s. Unit {0}) (λ s. tt) (somes (crossed k xs low high m))) crossed_order
 
-  straight-counts : (β : ℕ) → length (straight β) ≤ 2 * length (sets 1 (length xs) m) - 1
+  straight_counts : (β : ℕ) → length (straight β) ≤ 2 * length (sets 1 (length xs) m) - 1
   unfolding α straight
-  straight-counts β = subst (λ n. length (straight β) ≤ 2 * length (sets 1 n m) - 1) (shadows-length α 1 xs)
-      (counts (amounts (suc k)) (amounts_laws (suc k)) (shadows α 1 xs) (shadow-rows k xs own-entries) (shadow α β low) (shadow α β high) (shadow-own wα (own_wide k low own-low) β) (shadow-own wα (own_wide k high own-high) β) m c.some (subst (λ n. m ≤ n) (sym (shadows-length α 1 xs)) c.room))
+  straight_counts β = subst (λ n. length (straight β) ≤ 2 * length (sets 1 n m) - 1) (shadows-length α 1 xs)
+      (counts (amounts (suc k)) (amounts_laws (suc k)) (shadows α 1 xs) (shadow_rows k xs own-entries) (shadow α β low) (shadow α β high) (shadow-own wα (own_wide k low own-low) β) (shadow-own wα (own_wide k high own-high) β) m c.some (subst (λ n. m ≤ n) (sym (shadows-length α 1 xs)) c.room))
 
   pub crossed_counts : length (crossed k xs low high m) ≤ (m * (length xs - m) + 1) * (2 * length (sets 1 (length xs) m) - 1)
   unfolding α straight
-  crossed_counts = subst (λ n. length (crossed k xs low high m) ≤ n * (2 * length (sets 1 (length xs) m) - 1)) (length-rank_totals (length xs) m c.room) (length-joined_le straight (2 * length (sets 1 (length xs) m) - 1) straight-counts (rank_totals (length xs) m))
+  crossed_counts = subst (λ n. length (crossed k xs low high m) ≤ n * (2 * length (sets 1 (length xs) m) - 1)) (length-rank_totals (length xs) m c.room) (length-flat_map_le straight (2 * length (sets 1 (length xs) m) - 1) straight_counts (rank_totals (length xs) m))

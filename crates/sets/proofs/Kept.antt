@@ -30,15 +30,15 @@ module _ {X : Type 0} where
   kept_none p [] a = refl
   kept_none p (x ∷ xs) a = kept_no p x xs a.0 ∙ kept_none p xs a.1
 
-  pub kept-one : (R : X → X → Type 0) → ((x : X) → R x x → ⊥) → (p : X → Bool) (x : X) → p x ≡ true → ((y : X) → p y ≡ true → y ≡ x) → (xs : List X) → Sorted R xs → In x xs → filter p xs ≡ x ∷ []
-  kept-one R irr p x px only [] s i = absurd i
-  kept-one R irr p x px only (y ∷ ys) s i = elim (cases_Bool (p y)) [
+  pub kept_one : (R : X → X → Type 0) → ((x : X) → R x x → ⊥) → (p : X → Bool) (x : X) → p x ≡ true → ((y : X) → p y ≡ true → y ≡ x) → (xs : List X) → Sorted R xs → In x xs → filter p xs ≡ x ∷ []
+  kept_one R irr p x px only [] s i = absurd i
+  kept_one R irr p x px only (y ∷ ys) s i = elim (cases_Bool (p y)) [
     | inl e ↦
         let same : y ≡ x = only y e in
         kept_yes p y ys e ∙ ap₂ (λ z zs. z ∷ zs) same (kept_none p ys (All-weaker (R y) (λ z. p z ≡ false) (λ z r. is_false (p z) (λ f. irr y (subst (R y) (only z f ∙ sym same) r))) ys s.0))
     | inr e ↦ kept_no p y ys e ∙ elim i [
       | inl f ↦ absurd (both_ways (p y) e (subst (λ z. p z ≡ true) f px))
-      | inr h ↦ kept-one R irr p x px only ys s.1 h
+      | inr h ↦ kept_one R irr p x px only ys s.1 h
     ]
   ]
 
@@ -60,9 +60,9 @@ module _ {X : Type 0} where
       step false true f h = omega arith
       step false false f h = h
 
-  pub kept-most : (p : X → Bool) (xs : List X) → length (filter p xs) ≤ length xs
-  kept-most p [] = omega arith
-  kept-most p (x ∷ xs) = step (p x) (kept-most p xs)
+  pub kept_most : (p : X → Bool) (xs : List X) → length (filter p xs) ≤ length xs
+  kept_most p [] = omega arith
+  kept_most p (x ∷ xs) = step (p x) (kept_most p xs)
     where
       step : (b : Bool) → length (filter p xs) ≤ length xs → length (cond b (x ∷ filter p xs) (filter p xs)) ≤ suc (length xs)
       step true h = omega arith
@@ -117,7 +117,7 @@ module _ {X : Type 0} where
         kept_part a xs s ∙ ap (λ ys. filter (λ x. p x && eqb (key x) a) xs ++ ys) (kept_from (suc a) n xs s (All-weaker (λ x. p x ≡ true → key x < a + suc n) (λ x. p x ≡ true → key x < suc a + n) (λ x h f. omega (arith, h f)) xs b))
 
     -- a sorted list falls apart by a key that does not go down along it
-    pub kept-split : (a n : ℕ) (xs : List X) → Sorted R xs → AllByRecursion (λ x. p x ≡ true → (a ≤ key x) × (key x < a + n)) xs → filter p xs ≡ flat_map (λ v. filter (λ x. p x && eqb (key x) v) xs) (count_from a n)
-    kept-split a n xs s b =
+    pub kept_split : (a n : ℕ) (xs : List X) → Sorted R xs → AllByRecursion (λ x. p x ≡ true → (a ≤ key x) × (key x < a + n)) xs → filter p xs ≡ flat_map (λ v. filter (λ x. p x && eqb (key x) v) xs) (count_from a n)
+    kept_split a n xs s b =
         kept_same p (λ x. p x && leb a (key x)) xs (All-weaker (λ x. p x ≡ true → (a ≤ key x) × (key x < a + n)) (λ x. p x ≡ (p x && leb a (key x))) (λ x h. bool_same (p x) (p x && leb a (key x)) (λ f. and_from (p x) (leb a (key x)) f (le-leb a (key x) (h f).0)) (λ f. (and_parts (p x) (leb a (key x)) f).0)) xs b)
         ∙ kept_from a n xs s (All-weaker (λ x. p x ≡ true → (a ≤ key x) × (key x < a + n)) (λ x. p x ≡ true → key x < a + n) (λ x h f. (h f).1) xs b)

@@ -83,6 +83,6 @@ module _ {X : Type 0} where
         sorted_append R (f a) rest (sorted a) (sorted_joined (suc a) n)
         (All-weaker (λ x. key x ≡ a) (λ x. AllByRecursion (R x) rest) (λ x e. All-weaker (λ y. suc a ≤ key y) (R x) (λ y l. apart x y (omega arith)) rest (from_all (suc a) n)) (f a) (keyed a))
 
-pub length-joined_le : {X Y : Type 0} (f : X → List Y) (c : ℕ) → ((x : X) → length (f x) ≤ c) → (xs : List X) → length (flat_map f xs) ≤ length xs * c
-length-joined_le f c h [] = omega arith
-length-joined_le f c h (x ∷ xs) = omega (arith, h x, length-joined_le f c h xs, length-append (f x) (flat_map f xs))
+pub length-flat_map_le : {X Y : Type 0} (f : X → List Y) (c : ℕ) → ((x : X) → length (f x) ≤ c) → (xs : List X) → length (flat_map f xs) ≤ length xs * c
+length-flat_map_le f c h [] = omega arith
+length-flat_map_le f c h (x ∷ xs) = omega (arith, h x, length-flat_map_le f c h xs, length-append (f x) (flat_map f xs))

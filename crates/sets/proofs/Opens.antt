@@ -39,19 +39,19 @@ settled_open (suc k) (x ∷ lo) [] i s l o = absurd (omega arith)
 settled_open (suc k) (x ∷ lo) (y ∷ hi) zero s l o = absurd (omega arith)
 settled_open (suc k) (x ∷ lo) (y ∷ hi) (suc i) s l o = omega (arith, settled_open k lo hi i s.1 (omega arith) o)
 
-pub settled-within : (k : ℕ) (lo lo' hi' hi : List ℕ) → Below lo lo' → Below lo' hi' → Below hi' hi → Settled k lo hi → Settled k lo' hi'
-settled-within zero lo lo' hi' hi f g h s = tt
-settled-within (suc k) lo [] hi' hi f g h s = tt
-settled-within (suc k) lo (x ∷ lo') [] hi f g h s = tt
-settled-within (suc k) [] (x ∷ lo') (y ∷ hi') hi f g h s = absurd f
-settled-within (suc k) (l ∷ lo) (x ∷ lo') (y ∷ hi') [] f g h s = absurd h
-settled-within (suc k) (l ∷ lo) (x ∷ lo') (y ∷ hi') (z ∷ hi) f g h s = (omega arith, settled-within k lo lo' hi' hi f.1 g.1 h.1 s.1)
+pub settled_within : (k : ℕ) (lo lo' hi' hi : List ℕ) → Below lo lo' → Below lo' hi' → Below hi' hi → Settled k lo hi → Settled k lo' hi'
+settled_within zero lo lo' hi' hi f g h s = tt
+settled_within (suc k) lo [] hi' hi f g h s = tt
+settled_within (suc k) lo (x ∷ lo') [] hi f g h s = tt
+settled_within (suc k) [] (x ∷ lo') (y ∷ hi') hi f g h s = absurd f
+settled_within (suc k) (l ∷ lo) (x ∷ lo') (y ∷ hi') [] f g h s = absurd h
+settled_within (suc k) (l ∷ lo) (x ∷ lo') (y ∷ hi') (z ∷ hi) f g h s = (omega arith, settled_within k lo lo' hi' hi f.1 g.1 h.1 s.1)
 
-pub settled-more : (i : ℕ) (lo hi : List ℕ) → Below lo hi → Settled i lo hi → at lo i ≡ at hi i → Settled (suc i) lo hi
-settled-more i [] hi b s e = tt
-settled-more i (x ∷ lo) [] b s e = tt
-settled-more zero (x ∷ lo) (y ∷ hi) b s e = (e, tt)
-settled-more (suc i) (x ∷ lo) (y ∷ hi) b s e = (s.0, settled-more i lo hi b.1 s.1 e)
+pub settled_more : (i : ℕ) (lo hi : List ℕ) → Below lo hi → Settled i lo hi → at lo i ≡ at hi i → Settled (suc i) lo hi
+settled_more i [] hi b s e = tt
+settled_more i (x ∷ lo) [] b s e = tt
+settled_more zero (x ∷ lo) (y ∷ hi) b s e = (e, tt)
+settled_more (suc i) (x ∷ lo) (y ∷ hi) b s e = (s.0, settled_more i lo hi b.1 s.1 e)
 
 -- of two sets between, the one before has no greater place at the first open position
 pub lex_at : (i : ℕ) (lo hi x y : List ℕ) → Settled i lo hi → Below lo x → Below x hi → Below lo y → Below y hi → Lex x y → at x i ≤ at y i

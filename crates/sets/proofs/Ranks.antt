@@ -32,8 +32,8 @@ greatest_total_is n m l =
     half a b h = omega arith
 
 -- how far the two ends are apart
-totals-apart : (n m : ℕ) → m ≤ n → greatest_total n m ≡ least_total m + m * (n - m)
-totals-apart n m l =
+totals_apart : (n m : ℕ) → m ≤ n → greatest_total n m ≡ least_total m + m * (n - m)
+totals_apart n m l =
     greatest_total_is n m l ∙ apart (n - m) ∙ ap (λ k. k + m * (n - m)) (sym (least_total_is m))
   where
     apart : (d : ℕ) → place_sum (count_from (suc d) m) ≡ place_sum (count_from 1 m) + m * d
@@ -44,7 +44,7 @@ pub rank_totals_are : (n m : ℕ) → rank_totals n m ≡ count_from (least_tota
 rank_totals_are n m = counting_is (least_total m) (greatest_total n m + 1 - least_total m)
 
 pub length-rank_totals : (n m : ℕ) → m ≤ n → length (rank_totals n m) ≡ m * (n - m) + 1
-length-rank_totals n m l = ap length (rank_totals_are n m) ∙ length-count_from (least_total m) (greatest_total n m + 1 - least_total m) ∙ width (least_total m) (greatest_total n m) (m * (n - m)) (totals-apart n m l)
+length-rank_totals n m l = ap length (rank_totals_are n m) ∙ length-count_from (least_total m) (greatest_total n m + 1 - least_total m) ∙ width (least_total m) (greatest_total n m) (m * (n - m)) (totals_apart n m l)
   where
     width : (a b c : ℕ) → b ≡ a + c → b + 1 - a ≡ c + 1
     width a b c h = omega arith

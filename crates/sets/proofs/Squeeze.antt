@@ -6,7 +6,7 @@ use Rattle.measure.specs.Algebra.{Algebra, Row, Laws, Own, NotAbove}
 use Rattle.sets.specs.Sets.{Rows, total, in_band}
 use Rattle.sets.specs.Spaces.{Space, same}
 use Rattle.sets.proofs.Forms.{then, at, lifted, topped, count_from, count_down, least, greatest, widths, sweep, choices, raise, lower, pass, squeeze}
-use Rattle.sets.proofs.Vectors.{Below, Rising, Upto, below_refl, below_trans, below_antisym, below_at, below_length, below_upto, rising-at, lifted-rising, lifted-least, lifted-more, lifted-same, at-lifted, topped-rising, topped-most, topped_less, topped-same, at-topped}
+use Rattle.sets.proofs.Vectors.{Below, Rising, Upto, below_refl, below_trans, below_antisym, below_at, below_length, below_upto, rising_at, lifted-rising, lifted-least, lifted_more, lifted_same, at_lifted, topped-rising, topped_most, topped_less, topped_same, at_topped}
 use Rattle.sets.proofs.Totals.{total-own, total-climbs}
 use Rattle.sets.proofs.Choices.{Least, least_is, Greatest, greatest_is, count_from_below, count_down_below, same_true, same_self, widths_level}
 
@@ -34,8 +34,8 @@ abbrev pub Tight : (List ℕ → Type 0) → ℕ → ℕ → Space → Option Sp
 Tight S n m s None = (x : List ℕ) → Rising 0 x → Inside s x → S x → ⊥
 Tight S n m s (Some t) = Tighter S n m s t
 
-pub space-same : (s t : Space) → s.lo ≡ t.lo → s.hi ≡ t.hi → s ≡ t
-space-same s t p q = λ i. record { lo = p i; hi = q i }
+pub space_same : (s t : Space) → s.lo ≡ t.lo → s.hi ≡ t.hi → s ≡ t
+space_same s t p q = λ i. record { lo = p i; hi = q i }
 
 pub none_some : {A : Type 0} (t : A) → ◌≡◌ {A = Option A} None (Some t) → ⊥
 none_some t e = let z : ◌≡◌ {A = ℕ} 0 1 = cc in omega arith
@@ -65,7 +65,7 @@ module _ (S : List ℕ → Type 0) (n m : ℕ) where
   tight_sweep step ok (i ∷ is) b s v = tight_then s (step s i) (sweep step is) (ok s i v b.0) (tight_sweep step ok is b.1)
 
   both_tighter : (s t : Space) → Tighter S n m s t → Tighter S n m t s → t ≡ s
-  both_tighter s t h k = space-same t s (below_antisym t.lo s.lo k.up h.up) (below_antisym t.hi s.hi h.down k.down)
+  both_tighter s t h k = space_same t s (below_antisym t.lo s.lo k.up h.up) (below_antisym t.hi s.hi h.down k.down)
 
   -- where the second step comes back, neither moves
   then_fixed : (s : Space) (q : Option Space) (f : Space → Option Space) → Tight S n m s q → ((t : Space) → Valid n m t → Tight S n m t (f t)) → then q f ≡ Some s → (q ≡ Some s) × (f s ≡ Some s)
@@ -101,18 +101,18 @@ module _ (a : Algebra) (laws : Laws a) (xs : List Row) (rows : Rows a xs) (low h
   at_below s i v = below_at s.lo s.hi i v.between
 
   -- the value of a solution at position i passes both tests
-  reaches-at : (s : Space) (i : ℕ) → Valid (length xs) m s → i < m → (x : List ℕ) → Rising 0 x → Inside s x → Solved x → reaches s i (at x i) ≡ true
+  reaches_at : (s : Space) (i : ℕ) → Valid (length xs) m s → i < m → (x : List ℕ) → Rising 0 x → Inside s x → Solved x → reaches s i (at x i) ≡ true
   unfolding reaches
-  reaches-at s i v l x r ins z =
+  reaches_at s i v l x r ins z =
       let t : List ℕ = topped s.hi i (at x i) in
       let lx : i < length x = omega (arith, below_length s.lo x ins.0, v.size) in
-      let rt : Rising 0 t = topped-rising 0 s.hi i (at x i) v.rising_hi (rising-at 0 x i lx r) (below_at x s.hi i ins.1) in
+      let rt : Rising 0 t = topped-rising 0 s.hi i (at x i) v.rising_hi (rising_at 0 x i lx r) (below_at x s.hi i ins.1) in
       let ux : Upto (length xs) x = below_upto (length xs) x s.hi ins.1 v.upto in
       let ut : Upto (length xs) t = below_upto (length xs) t s.hi (topped_less s.hi i (at x i) (below_at x s.hi i ins.1)) v.upto in
       let le : at x i ≤ at x i = omega arith in
       laws.transitive low (total a xs x) (total a xs t) low_own (total-own a laws xs rows 0 x r ux) (total-own a laws xs rows 0 t rt ut)
       (and_parts (a.not_above low (total a xs x)) (a.not_above (total a xs x) high) z).0
-      (total-climbs a laws xs rows 0 0 x t r rt ux ut (topped-most 0 x s.hi i (at x i) ins.1 r lx le))
+      (total-climbs a laws xs rows 0 0 x t r rt ux ut (topped_most 0 x s.hi i (at x i) ins.1 r lx le))
 
   stays_at : (s : Space) (i : ℕ) → Valid (length xs) m s → i < m → (x : List ℕ) → Rising 0 x → Inside s x → Solved x → stays s i (at x i) ≡ true
   unfolding stays
@@ -132,7 +132,7 @@ module _ (a : Algebra) (laws : Laws a) (xs : List Row) (rows : Rows a xs) (low h
   raise_tight s i v l = go (least (reaches s i) (at s.lo i) (choices s i)) (least_is (reaches s i) (at s.lo i) (choices s i))
     where
       go : (q : Option ℕ) → Least (reaches s i) (at s.lo i) (choices s i) q → Tight Solved (length xs) m s (then q (λ w. Some (record { lo = lifted s.lo i w; hi = s.hi })))
-      go None h = λ x r ins z. h (at x i) (below_at s.lo x i ins.0) (omega (arith, below_at x s.hi i ins.1, at_below s i v)) (reaches-at s i v l x r ins z)
+      go None h = λ x r ins z. h (at x i) (below_at s.lo x i ins.0) (omega (arith, below_at x s.hi i ins.1, at_below s i v)) (reaches_at s i v l x r ins z)
       go (Some w) h =
           let le : at s.lo i ≤ w = h.0 in
           let ge : w ≤ at s.hi i = omega (arith, at_below s i v) in
@@ -142,11 +142,11 @@ module _ (a : Algebra) (laws : Laws a) (xs : List Row) (rows : Rows a xs) (low h
               rising_hi = v.rising_hi;
               between = lifted-least 0 s.lo i w s.hi v.between v.rising_hi ge;
               upto = v.upto;
-              size = sym (below_length s.lo (lifted s.lo i w) (lifted-more s.lo i w le)) ∙ v.size;
+              size = sym (below_length s.lo (lifted s.lo i w) (lifted_more s.lo i w le)) ∙ v.size;
             };
-            up = lifted-more s.lo i w le;
+            up = lifted_more s.lo i w le;
             down = below_refl s.hi;
-            keeps = λ x r ins z. (lifted-least 0 s.lo i w x ins.0 r (h.3 (at x i) (below_at s.lo x i ins.0) (omega (arith, below_at x s.hi i ins.1, at_below s i v)) (reaches-at s i v l x r ins z)), ins.1);
+            keeps = λ x r ins z. (lifted-least 0 s.lo i w x ins.0 r (h.3 (at x i) (below_at s.lo x i ins.0) (omega (arith, below_at x s.hi i ins.1, at_below s i v)) (reaches_at s i v l x r ins z)), ins.1);
           }
 
   lower_tight : (s : Space) (i : ℕ) → Valid (length xs) m s → i < m → Tight Solved (length xs) m s (lower a xs low high s i)
@@ -162,8 +162,8 @@ module _ (a : Algebra) (laws : Laws a) (xs : List Row) (rows : Rows a xs) (low h
           record {
             valid = record {
               rising_lo = v.rising_lo;
-              rising_hi = topped-rising 0 s.hi i w v.rising_hi (omega (arith, rising-at 0 s.lo i ll v.rising_lo)) ge;
-              between = topped-most 0 s.lo s.hi i w v.between v.rising_lo ll le;
+              rising_hi = topped-rising 0 s.hi i w v.rising_hi (omega (arith, rising_at 0 s.lo i ll v.rising_lo)) ge;
+              between = topped_most 0 s.lo s.hi i w v.between v.rising_lo ll le;
               upto = below_upto (length xs) (topped s.hi i w) s.hi (topped_less s.hi i w ge) v.upto;
               size = v.size;
             };
@@ -171,7 +171,7 @@ module _ (a : Algebra) (laws : Laws a) (xs : List Row) (rows : Rows a xs) (low h
             down = topped_less s.hi i w ge;
             keeps = λ x r ins z.
                 let lx : i < length x = omega (arith, below_length s.lo x ins.0, v.size) in
-                (ins.0, topped-most 0 x s.hi i w ins.1 r lx (h.3 (at x i) (below_at s.lo x i ins.0) (omega (arith, below_at x s.hi i ins.1, at_below s i v)) (stays_at s i v l x r ins z)));
+                (ins.0, topped_most 0 x s.hi i w ins.1 r lx (h.3 (at x i) (below_at s.lo x i ins.0) (omega (arith, below_at x s.hi i ins.1, at_below s i v)) (stays_at s i v l x r ins z)));
           }
 
   pub raises_tight : (s : Space) (k : ℕ) → k ≡ m → Valid (length xs) m s → Tight Solved (length xs) m s (sweep (raise a xs low high) (count_from 0 k) s)
@@ -197,7 +197,7 @@ module _ (a : Algebra) (laws : Laws a) (xs : List Row) (rows : Rows a xs) (low h
   fixed_level : (s t : Space) → Valid (length xs) m s → Tighter Solved (length xs) m s t → pass a xs low high s ≡ Some t → widths s.lo s.hi ≤ widths t.lo t.hi → s ≡ t
   fixed_level s t v h e l =
       let b = widths_level s.lo t.lo t.hi s.hi h.up h.valid.between h.down l in
-      space-same s t (below_antisym s.lo t.lo h.up b.0) (below_antisym s.hi t.hi b.1 h.down)
+      space_same s t (below_antisym s.lo t.lo h.up b.0) (below_antisym s.hi t.hi b.1 h.down)
 
   pub squeeze_fixed : (n : ℕ) (s : Space) → Valid (length xs) m s → widths s.lo s.hi ≤ n → Fixed a xs low high (squeeze a xs low high n s)
   squeeze_fixed zero s v l = go (pass a xs low high s) refl (pass_tight s v)
@@ -214,7 +214,7 @@ module _ (a : Algebra) (laws : Laws a) (xs : List Row) (rows : Rows a xs) (low h
           test : (b : Bool) → (same s.lo t.lo && same s.hi t.hi) ≡ b → Fixed a xs low high (cond b (Some t) (squeeze a xs low high n t))
           test true f =
               let p = and_parts (same s.lo t.lo) (same s.hi t.hi) f in
-              subst (λ u. pass a xs low high u ≡ Some t) (space-same s t (same_true s.lo t.lo p.0) (same_true s.hi t.hi p.1)) e
+              subst (λ u. pass a xs low high u ≡ Some t) (space_same s t (same_true s.lo t.lo p.0) (same_true s.hi t.hi p.1)) e
           test false f = elim (cases_lt (widths t.lo t.hi) (widths s.lo s.hi)) [
             | inl k ↦ ih t h.valid (omega arith)
             | inr k ↦ absurd (both_ways (same s.lo t.lo && same s.hi t.hi) f
@@ -229,7 +229,7 @@ module _ (a : Algebra) (laws : Laws a) (xs : List Row) (rows : Rows a xs) (low h
       go None h f = absurd (none_some s f)
       go (Some w) h f =
           let p : lifted s.lo i w ≡ s.lo = ap (λ (t : Space). t.lo) (some_same (record { lo = lifted s.lo i w; hi = s.hi }) s f) in
-          let q : w ≡ at s.lo i = sym (at-lifted s.lo i w (omega (arith, v.size))) ∙ ap (λ t. at t i) p in
+          let q : w ≡ at s.lo i = sym (at_lifted s.lo i w (omega (arith, v.size))) ∙ ap (λ t. at t i) p in
           subst (λ u. reaches s i u ≡ true) q h.2
 
   lower_fixed : (s : Space) (i : ℕ) → Valid (length xs) m s → i < m → lower a xs low high s i ≡ Some s → stays s i (at s.hi i) ≡ true
@@ -240,7 +240,7 @@ module _ (a : Algebra) (laws : Laws a) (xs : List Row) (rows : Rows a xs) (low h
       go None h f = absurd (none_some s f)
       go (Some w) h f =
           let p : topped s.hi i w ≡ s.hi = ap (λ (t : Space). t.hi) (some_same (record { lo = s.lo; hi = topped s.hi i w }) s f) in
-          let q : w ≡ at s.hi i = sym (at-topped s.hi i w (omega (arith, v.size, below_length s.lo s.hi v.between))) ∙ ap (λ t. at t i) p in
+          let q : w ≡ at s.hi i = sym (at_topped s.hi i w (omega (arith, v.size, below_length s.lo s.hi v.between))) ∙ ap (λ t. at t i) p in
           subst (λ u. stays s i u ≡ true) q h.2
 
   -- a space that a pass leaves as it is, with nothing open, is a set in the band
@@ -253,10 +253,10 @@ module _ (a : Algebra) (laws : Laws a) (xs : List Row) (rows : Rows a xs) (low h
           (raises_tight s (length s.lo) v.size v) (λ t w. lowers_tight t (length s.lo) v.size w) e
 
       from_reach : reaches s 0 (at s.lo 0) ≡ true → NotAbove a low (total a xs s.lo)
-      from_reach h = subst (λ t. NotAbove a low (total a xs t)) (ap (λ t. topped s.hi 0 (at t 0)) same ∙ topped-same 0 s.hi 0 v.rising_hi (omega (arith, v.size, below_length s.lo s.hi v.between)) ∙ sym same) h
+      from_reach h = subst (λ t. NotAbove a low (total a xs t)) (ap (λ t. topped s.hi 0 (at t 0)) same ∙ topped_same 0 s.hi 0 v.rising_hi (omega (arith, v.size, below_length s.lo s.hi v.between)) ∙ sym same) h
 
       from_stay : (i : ℕ) → stays s i (at s.hi i) ≡ true → NotAbove a (total a xs s.lo) high
-      from_stay i h = subst (λ t. NotAbove a (total a xs t) high) (ap (λ t. lifted s.lo i (at t i)) (sym same) ∙ lifted-same 0 s.lo i v.rising_lo) h
+      from_stay i h = subst (λ t. NotAbove a (total a xs t) high) (ap (λ t. lifted s.lo i (at t i)) (sym same) ∙ lifted_same 0 s.lo i v.rising_lo) h
 
       go : (k : ℕ) → k ≡ m → sweep (raise a xs low high) (count_from 0 k) s ≡ Some s → sweep (lower a xs low high) (count_down k) s ≡ Some s → Solved s.lo
       go zero p f g = absurd (omega arith)

@@ -5,7 +5,7 @@ use Rattle.measure.specs.Algebra.{Algebra, Row}
 use Rattle.sets.specs.Sets.{total}
 use Rattle.sets.specs.Spaces.{Space, space}
 use Rattle.sets.proofs.Forms.{then, at, above, lifted, topped, count_from, count_down, least, greatest, sweep, raise, lower}
-use Rattle.sets.proofs.Vectors.{Below, Rising, Upto, below_length, rising-at, above_same}
+use Rattle.sets.proofs.Vectors.{Below, Rising, Upto, below_length, rising_at, above_same}
 use Rattle.sets.proofs.Choices.{Least, least_is, Greatest, greatest_is}
 use Rattle.sets.proofs.Squeeze.{Valid}
 use Rattle.sets.proofs.Opens.{Settled}
@@ -42,11 +42,11 @@ above-above w v (x ∷ s) l =
     let e : max (suc v) (max (suc w) x) ≡ max (suc v) x = omega arith in
     ap (λ u. u ∷ above u (above (max (suc w) x) s)) e ∙ ap (λ t. max (suc v) x ∷ t) (above-above (max (suc w) x) (max (suc v) x) s (omega arith))
 
-lifted-at : (p : List ℕ) (y : ℕ) (ys : List ℕ) (k v : ℕ) → length p ≡ k → lifted (p ++ y ∷ ys) k v ≡ p ++ v ∷ above v ys
-lifted-at [] y ys zero v e = refl
-lifted-at [] y ys (suc k) v e = absurd (omega arith)
-lifted-at (x ∷ p) y ys zero v e = absurd (omega arith)
-lifted-at (x ∷ p) y ys (suc k) v e = ap (λ t. x ∷ t) (lifted-at p y ys k v (omega arith))
+lifted_at : (p : List ℕ) (y : ℕ) (ys : List ℕ) (k v : ℕ) → length p ≡ k → lifted (p ++ y ∷ ys) k v ≡ p ++ v ∷ above v ys
+lifted_at [] y ys zero v e = refl
+lifted_at [] y ys (suc k) v e = absurd (omega arith)
+lifted_at (x ∷ p) y ys zero v e = absurd (omega arith)
+lifted_at (x ∷ p) y ys (suc k) v e = ap (λ t. x ∷ t) (lifted_at p y ys k v (omega arith))
 
 -- each at most v less its distance from the end
 under : List ℕ → ℕ → List ℕ
@@ -58,14 +58,14 @@ unfolding under
 under_length [] v = refl
 under_length (h ∷ p) v = ap suc (under_length p v)
 
-topped-at : (p : List ℕ) (y : ℕ) (ys : List ℕ) (k v : ℕ) → length p ≡ k → topped (p ++ y ∷ ys) k v ≡ under p v ++ v ∷ ys
+topped_at : (p : List ℕ) (y : ℕ) (ys : List ℕ) (k v : ℕ) → length p ≡ k → topped (p ++ y ∷ ys) k v ≡ under p v ++ v ∷ ys
 unfolding under
-topped-at [] y ys zero v e = refl
-topped-at [] y ys (suc k) v e = absurd (omega arith)
-topped-at (x ∷ p) y ys zero v e = absurd (omega arith)
-topped-at (x ∷ p) y ys (suc k) v e =
+topped_at [] y ys zero v e = refl
+topped_at [] y ys (suc k) v e = absurd (omega arith)
+topped_at (x ∷ p) y ys zero v e = absurd (omega arith)
+topped_at (x ∷ p) y ys (suc k) v e =
     let f : min (v - suc k) x ≡ min (v - suc (length p)) x = ap (λ n. min (v - suc n) x) (let g : k ≡ length p = omega arith in g) in
-    ap₂ (λ z zs. z ∷ zs) f (topped-at p y ys k v (omega arith))
+    ap₂ (λ z zs. z ∷ zs) f (topped_at p y ys k v (omega arith))
 
 under_under : (p : List ℕ) (c v : ℕ) → v ≤ c → under (under p c) v ≡ under p v
 unfolding under
@@ -142,7 +142,7 @@ module _ (a : Algebra) (xs : List Row) (low high : Row) where
       go (Some v) h ih =
           ap (λ t. sweep (raise_at a xs low high) (count_from (suc k) n) (space t hi)) (set_at p x s v k e ∙ sym (append_assoc p (v ∷ []) s))
           ∙ ih v
-          ∙ ap (λ t. sweep (raise a xs low high) (count_from (suc k) n) (space t hi)) (append_assoc p (v ∷ []) (above v s) ∙ ap (λ t. p ++ v ∷ t) (sym (above-above w v s h.0)) ∙ sym (lifted-at p w (above w s) k v e))
+          ∙ ap (λ t. sweep (raise a xs low high) (count_from (suc k) n) (space t hi)) (append_assoc p (v ∷ []) (above v s) ∙ ap (λ t. p ++ v ∷ t) (sym (above-above w v s h.0)) ∙ sym (lifted_at p w (above w s) k v e))
 
   -- the first n positions, those after as they are: lowering them one by one, or from a list that is already pushed down
   lowers_same : (n c : ℕ) (lo p s : List ℕ) → length p ≡ n → Upto (length xs) p → ((h : ℕ) → h ≤ length xs → before (h ∷ s) 0 ≡ min (c - 1) h) →
@@ -191,7 +191,7 @@ module _ (a : Algebra) (xs : List Row) (low high : Row) where
       go (Some v) k ih =
           ap (λ t. sweep (lower_at a xs low high) (count_down n) (space lo t)) (set_at q h s v n lq)
           ∙ ih v
-          ∙ ap (λ t. sweep (lower a xs low high) (count_down n) (space lo t)) (ap (λ t. t ++ v ∷ s) (sym (under_under q (c - 1) v (omega (arith, k.1)))) ∙ sym (topped-at (under q (c - 1)) w s n v lu))
+          ∙ ap (λ t. sweep (lower a xs low high) (count_down n) (space lo t)) (ap (λ t. t ++ v ∷ s) (sym (under_under q (c - 1) v (omega (arith, k.1)))) ∙ sym (topped_at (under q (c - 1)) w s n v lu))
 
 -- where all before position i is settled, no more than position i is written
 pub topped-settled : (b : ℕ) (lo hi : List ℕ) (i v : ℕ) → Rising b lo → Below lo hi → i < length lo → Settled i lo hi → at lo i ≤ v → topped hi i v ≡ set hi i v
@@ -200,7 +200,7 @@ topped-settled b (x ∷ lo) [] i v r w l s f = absurd w
 topped-settled b (x ∷ lo) (y ∷ hi) zero v r w l s f = refl
 topped-settled b (x ∷ lo) (y ∷ hi) (suc i) v r w l s f =
     let j : i < length lo = omega arith in
-    let e : min (v - suc i) y ≡ y = omega (arith, rising-at x lo i j r.1, s.0) in
+    let e : min (v - suc i) y ≡ y = omega (arith, rising_at x lo i j r.1, s.0) in
     ap₂ (λ z zs. z ∷ zs) e (topped-settled x lo hi i v r.1 w.1 j s.1 f)
 
 module _ (a : Algebra) (xs : List Row) (low high : Row) (m : ℕ) where

@@ -8,11 +8,11 @@ use Rattle.sets.specs.Sets.{Rows, sets, total, in_band, solutions}
 use Rattle.sets.specs.Spaces.{Space}
 use Rattle.sets.specs.Trace.{Trace, somes}
 use Rattle.sets.proofs.Forms.{at, lifted, topped, child, choices, count_from, widths, open_at, squeezed, split, examined, explore, trace, pass}
-use Rattle.sets.proofs.Vectors.{Below, Rising, Upto, below_refl, below_trans, below_antisym, below_at, below_length, below_upto, rising_weaker, rising-at, lifted-rising, lifted-least, lifted-more, at-lifted, topped-rising, topped-most, topped_less, at-topped}
+use Rattle.sets.proofs.Vectors.{Below, Rising, Upto, below_refl, below_trans, below_antisym, below_at, below_length, below_upto, rising_weaker, rising_at, lifted-rising, lifted-least, lifted_more, at_lifted, topped-rising, topped_most, topped_less, at_topped}
 use Rattle.sets.proofs.Members.{Among, sets_among, sets_all, In, Lex, lex_irreflexive, sets_sorted}
 use Rattle.sets.proofs.Squeeze.{Valid, Inside, Tighter, Tight, Solves, Fixed, squeeze_tight, squeeze_fixed, settled_solves}
-use Rattle.sets.proofs.Opens.{Settled, Opens, open_is, settled_open, settled-within, settled-more, lex_at}
-use Rattle.sets.proofs.Kept.{bool_same, is_false, kept_same, kept_none, kept-one, kept_has, kept_fewer, kept-most, joined_same, joined_twice, kept-split}
+use Rattle.sets.proofs.Opens.{Settled, Opens, open_is, settled_open, settled_within, settled_more, lex_at}
+use Rattle.sets.proofs.Kept.{bool_same, is_false, kept_same, kept_none, kept_one, kept_has, kept_fewer, kept_most, joined_same, joined_twice, kept_split}
 
 -- the test of Below
 abbrev leqs : List ℕ → List ℕ → Bool
@@ -27,11 +27,11 @@ leqs_true [] (y ∷ t) e = both_ways false refl e
 leqs_true (x ∷ s) [] e = both_ways false refl e
 leqs_true (x ∷ s) (y ∷ t) e = let p = and_parts (leb x y) (leqs s t) e in (leb-true x y p.0, leqs_true s t p.1)
 
-leqs-from : (s t : List ℕ) → Below s t → leqs s t ≡ true
-leqs-from [] [] h = refl
-leqs-from [] (y ∷ t) h = absurd h
-leqs-from (x ∷ s) [] h = absurd h
-leqs-from (x ∷ s) (y ∷ t) h = and_from (leb x y) (leqs s t) (le-leb x y h.0) (leqs-from s t h.1)
+leqs_from : (s t : List ℕ) → Below s t → leqs s t ≡ true
+leqs_from [] [] h = refl
+leqs_from [] (y ∷ t) h = absurd h
+leqs_from (x ∷ s) [] h = absurd h
+leqs_from (x ∷ s) (y ∷ t) h = and_from (leb x y) (leqs s t) (le-leb x y h.0) (leqs_from s t h.1)
 
 -- inside, and good
 within : (List ℕ → Bool) → Space → List ℕ → Bool
@@ -44,35 +44,35 @@ within_parts good s x e =
     let q = and_parts (leqs s.lo x) (leqs x s.hi) p.0 in
     ((leqs_true s.lo x q.0, leqs_true x s.hi q.1), p.1)
 
-within-from : (good : List ℕ → Bool) (s : Space) (x : List ℕ) → Inside s x → good x ≡ true → within good s x ≡ true
+within_from : (good : List ℕ → Bool) (s : Space) (x : List ℕ) → Inside s x → good x ≡ true → within good s x ≡ true
 unfolding within
-within-from good s x i g = and_from (leqs s.lo x && leqs x s.hi) (good x) (and_from (leqs s.lo x) (leqs x s.hi) (leqs-from s.lo x i.0) (leqs-from x s.hi i.1)) g
+within_from good s x i g = and_from (leqs s.lo x && leqs x s.hi) (good x) (and_from (leqs s.lo x) (leqs x s.hi) (leqs_from s.lo x i.0) (leqs_from x s.hi i.1)) g
 
-pub child-valid : (n m : ℕ) (t : Space) (i v : ℕ) → Valid n m t → i < m → at t.lo i ≤ v → v ≤ at t.hi i → Valid n m (child t i v)
-child-valid n m t i v w l f g =
+pub child_valid : (n m : ℕ) (t : Space) (i v : ℕ) → Valid n m t → i < m → at t.lo i ≤ v → v ≤ at t.hi i → Valid n m (child t i v)
+child_valid n m t i v w l f g =
     let ll : i < length t.lo = omega (arith, w.size) in
     let lh : i < length t.hi = omega (arith, ll, below_length t.lo t.hi w.between) in
-    let rh : Rising 0 (topped t.hi i v) = topped-rising 0 t.hi i v w.rising_hi (omega (arith, rising-at 0 t.lo i ll w.rising_lo)) g in
+    let rh : Rising 0 (topped t.hi i v) = topped-rising 0 t.hi i v w.rising_hi (omega (arith, rising_at 0 t.lo i ll w.rising_lo)) g in
     record {
       rising_lo = lifted-rising 0 t.lo i v w.rising_lo f;
       rising_hi = rh;
-      between = lifted-least 0 t.lo i v (topped t.hi i v) (topped-most 0 t.lo t.hi i v w.between w.rising_lo ll f) rh (omega (arith, at-topped t.hi i v lh));
+      between = lifted-least 0 t.lo i v (topped t.hi i v) (topped_most 0 t.lo t.hi i v w.between w.rising_lo ll f) rh (omega (arith, at_topped t.hi i v lh));
       upto = below_upto n (topped t.hi i v) t.hi (topped_less t.hi i v g) w.upto;
-      size = sym (below_length t.lo (lifted t.lo i v) (lifted-more t.lo i v f)) ∙ w.size;
+      size = sym (below_length t.lo (lifted t.lo i v) (lifted_more t.lo i v f)) ∙ w.size;
     }
 
 child-settled : (n m : ℕ) (t : Space) (i v : ℕ) → Valid n m t → i < m → at t.lo i ≤ v → v ≤ at t.hi i → Settled i t.lo t.hi → Settled (suc i) (child t i v).lo (child t i v).hi
 child-settled n m t i v w l f g s =
-    let c : Valid n m (child t i v) = child-valid n m t i v w l f g in
+    let c : Valid n m (child t i v) = child_valid n m t i v w l f g in
     let ll : i < length t.lo = omega (arith, w.size) in
     let lh : i < length t.hi = omega (arith, ll, below_length t.lo t.hi w.between) in
-    settled-more i (lifted t.lo i v) (topped t.hi i v) c.between
-    (settled-within i t.lo (lifted t.lo i v) (topped t.hi i v) t.hi (lifted-more t.lo i v f) c.between (topped_less t.hi i v g) s)
-    (at-lifted t.lo i v ll ∙ sym (at-topped t.hi i v lh))
+    settled_more i (lifted t.lo i v) (topped t.hi i v) c.between
+    (settled_within i t.lo (lifted t.lo i v) (topped t.hi i v) t.hi (lifted_more t.lo i v f) c.between (topped_less t.hi i v g) s)
+    (at_lifted t.lo i v ll ∙ sym (at_topped t.hi i v lh))
 
 -- inside the child: inside, with v at position i
-child-within : (good : List ℕ → Bool) (n m : ℕ) (t : Space) (i v : ℕ) → Valid n m t → i < m → at t.lo i ≤ v → v ≤ at t.hi i → (x : List ℕ) → Among 0 n m x → within good (child t i v) x ≡ (within good t x && eqb (at x i) v)
-child-within good n m t i v w l f g x am = bool_same (within good (child t i v) x) (within good t x && eqb (at x i) v) down back
+child_within : (good : List ℕ → Bool) (n m : ℕ) (t : Space) (i v : ℕ) → Valid n m t → i < m → at t.lo i ≤ v → v ≤ at t.hi i → (x : List ℕ) → Among 0 n m x → within good (child t i v) x ≡ (within good t x && eqb (at x i) v)
+child_within good n m t i v w l f g x am = bool_same (within good (child t i v) x) (within good t x && eqb (at x i) v) down back
   where
     ll : i < length t.lo
     ll = omega (arith, w.size)
@@ -86,10 +86,10 @@ child-within good n m t i v w l f g x am = bool_same (within good (child t i v) 
     down : within good (child t i v) x ≡ true → (within good t x && eqb (at x i) v) ≡ true
     down e =
         let p = within_parts good (child t i v) x e in
-        let a1 : v ≤ at x i = omega (arith, at-lifted t.lo i v ll, below_at (lifted t.lo i v) x i p.0.0) in
-        let a2 : at x i ≤ v = omega (arith, at-topped t.hi i v lh, below_at x (topped t.hi i v) i p.0.1) in
+        let a1 : v ≤ at x i = omega (arith, at_lifted t.lo i v ll, below_at (lifted t.lo i v) x i p.0.0) in
+        let a2 : at x i ≤ v = omega (arith, at_topped t.hi i v lh, below_at x (topped t.hi i v) i p.0.1) in
         and_from (within good t x) (eqb (at x i) v)
-        (within-from good t x (below_trans t.lo (lifted t.lo i v) x (lifted-more t.lo i v f) p.0.0, below_trans x (topped t.hi i v) t.hi p.0.1 (topped_less t.hi i v g)) p.1)
+        (within_from good t x (below_trans t.lo (lifted t.lo i v) x (lifted_more t.lo i v f) p.0.0, below_trans x (topped t.hi i v) t.hi p.0.1 (topped_less t.hi i v g)) p.1)
         (eq-eqb (at x i) v (omega arith))
 
     back : (within good t x && eqb (at x i) v) ≡ true → within good (child t i v) x ≡ true
@@ -97,8 +97,8 @@ child-within good n m t i v w l f g x am = bool_same (within good (child t i v) 
         let q = and_parts (within good t x) (eqb (at x i) v) e in
         let p = within_parts good t x q.0 in
         let k : at x i ≡ v = eqb-true (at x i) v q.1 in
-        within-from good (child t i v) x
-        (lifted-least 0 t.lo i v x p.0.0 am.rising (omega arith), topped-most 0 x t.hi i v p.0.1 am.rising lx (omega arith)) p.1
+        within_from good (child t i v) x
+        (lifted-least 0 t.lo i v x p.0.0 am.rising (omega arith), topped_most 0 x t.hi i v p.0.1 am.rising lx (omega arith)) p.1
 
 -- the values at an open position
 pub values : (t : Space) (i : ℕ) → at t.lo i < at t.hi i → AllByRecursion (λ v. (at t.lo i ≤ v) × (v ≤ at t.hi i)) (count_from (at t.lo i) (choices t i))
@@ -141,9 +141,9 @@ somes-append [] qs = refl
 somes-append (None ∷ rs) qs = somes-append rs qs
 somes-append (Some s ∷ rs) qs = ap (λ ys. s ∷ ys) (somes-append rs qs)
 
-pub somes-joined : (f : ℕ → Trace) (vs : List ℕ) → somes (flat_map f vs) ≡ flat_map (λ v. somes (f v)) vs
-somes-joined f [] = refl
-somes-joined f (v ∷ vs) = somes-append (f v) (flat_map f vs) ∙ ap (λ ys. somes (f v) ++ ys) (somes-joined f vs)
+pub somes-flat_map : (f : ℕ → Trace) (vs : List ℕ) → somes (flat_map f vs) ≡ flat_map (λ v. somes (f v)) vs
+somes-flat_map f [] = refl
+somes-flat_map f (v ∷ vs) = somes-append (f v) (flat_map f vs) ∙ ap (λ ys. somes (f v) ++ ys) (somes-flat_map f vs)
 
 pub members : (n m : ℕ) → AllByRecursion (Among 0 n m) (sets 1 n m)
 members n m = subst (λ k. AllByRecursion (Among 0 k m) (sets 1 n m)) (let e : 0 + n ≡ n = omega arith in e) (sets_among 0 n m)
@@ -158,7 +158,7 @@ lo_among n m t v = record { rising = v.rising_lo; upto = below_upto n t.lo t.hi 
 children : (good : List ℕ → Bool) (n m : ℕ) (t : Space) (i : ℕ) → Valid n m t → Opens t.lo t.hi (Some i) →
     filter (within good t) (sets 1 n m) ≡ flat_map (λ v. filter (within good (child t i v)) (sets 1 n m)) (count_from (at t.lo i) (choices t i))
 children good n m t i w o =
-    kept-split Lex (within good t) (λ x. at x i) mono (at t.lo i) (choices t i) (sets 1 n m) (sets_sorted 0 n m) (All-weaker (Among 0 n m) (λ x. within good t x ≡ true → (at t.lo i ≤ at x i) × (at x i < at t.lo i + choices t i)) range (sets 1 n m) (members n m))
+    kept_split Lex (within good t) (λ x. at x i) mono (at t.lo i) (choices t i) (sets 1 n m) (sets_sorted 0 n m) (All-weaker (Among 0 n m) (λ x. within good t x ≡ true → (at t.lo i ≤ at x i) × (at x i < at t.lo i + choices t i)) range (sets 1 n m) (members n m))
     ∙ joined_same (λ v. filter (λ x. within good t x && eqb (at x i) v) (sets 1 n m)) (λ v. filter (within good (child t i v)) (sets 1 n m)) (λ v. (at t.lo i ≤ v) × (v ≤ at t.hi i)) each (count_from (at t.lo i) (choices t i)) (values t i o.1)
   where
     l : i < m
@@ -178,7 +178,7 @@ children good n m t i w o =
         (f, omega (arith, o.1))
 
     each : (v : ℕ) → (at t.lo i ≤ v) × (v ≤ at t.hi i) → filter (λ x. within good t x && eqb (at x i) v) (sets 1 n m) ≡ filter (within good (child t i v)) (sets 1 n m)
-    each v h = kept_same (λ x. within good t x && eqb (at x i) v) (within good (child t i v)) (sets 1 n m) (All-weaker (Among 0 n m) (λ x. (within good t x && eqb (at x i) v) ≡ within good (child t i v) x) (λ x am. sym (child-within good n m t i v w l h.0 h.1 x am)) (sets 1 n m) (members n m))
+    each v h = kept_same (λ x. within good t x && eqb (at x i) v) (within good (child t i v)) (sets 1 n m) (All-weaker (Among 0 n m) (λ x. (within good t x && eqb (at x i) v) ≡ within good (child t i v) x) (λ x am. sym (child_within good n m t i v w l h.0 h.1 x am)) (sets 1 n m) (members n m))
 
 module _ (a : Algebra) (laws : Laws a) (xs : List Row) (rows : Rows a xs) (low high : Row) (low_own : Own a low) (high_own : Own a high) (m : ℕ) where
   -- the total of x lies in the band
@@ -199,20 +199,20 @@ module _ (a : Algebra) (laws : Laws a) (xs : List Row) (rows : Rows a xs) (low h
   unfolding good
   squeezed_some s t v h = kept_same (within good s) (within good t) (sets 1 (length xs) m) (All-weaker (Among 0 (length xs) m) (λ x. within good s x ≡ within good t x)
       (λ x am. bool_same (within good s x) (within good t x)
-      (λ e. let p = within_parts good s x e in within-from good t x (h.keeps x am.rising p.0 p.1) p.1)
-      (λ e. let p = within_parts good t x e in within-from good s x (below_trans s.lo t.lo x h.up p.0.0, below_trans x t.hi s.hi p.0.1 h.down) p.1))
+      (λ e. let p = within_parts good s x e in within_from good t x (h.keeps x am.rising p.0 p.1) p.1)
+      (λ e. let p = within_parts good t x e in within_from good s x (below_trans s.lo t.lo x h.up p.0.0, below_trans x t.hi s.hi p.0.1 h.down) p.1))
       (sets 1 (length xs) m) (members (length xs) m))
 
-  settled-one : (t : Space) → Valid (length xs) m t → 0 < m → pass a xs low high t ≡ Some t → t.lo ≡ t.hi → filter (within good t) (sets 1 (length xs) m) ≡ t.lo ∷ []
+  settled_one : (t : Space) → Valid (length xs) m t → 0 < m → pass a xs low high t ≡ Some t → t.lo ≡ t.hi → filter (within good t) (sets 1 (length xs) m) ≡ t.lo ∷ []
   unfolding good
-  settled-one t v pos f e = kept-one Lex lex_irreflexive (within good t) t.lo
-      (within-from good t t.lo (below_refl t.lo, v.between) (settled_solves a laws xs rows low high low_own high_own m t v pos f e))
+  settled_one t v pos f e = kept_one Lex lex_irreflexive (within good t) t.lo
+      (within_from good t t.lo (below_refl t.lo, v.between) (settled_solves a laws xs rows low high low_own high_own m t v pos f e))
       (λ y h. let p = (within_parts good t y h).0 in below_antisym y t.lo (subst (Below y) (sym e) p.1) p.0)
       (sets 1 (length xs) m) (sets_sorted 0 (length xs) m) (is_member (length xs) m t.lo (lo_among (length xs) m t v))
 
-  explore-finds : (d k : ℕ) (s : Space) → 0 < m → Valid (length xs) m s → Settled k s.lo s.hi → k ≤ m → m < k + d → somes (explore a xs low high d s) ≡ filter (within good s) (sets 1 (length xs) m)
-  explore-finds zero k s pos v z l r = absurd (omega arith)
-  explore-finds (suc d) k s pos v z l r = go (squeezed a xs low high s) (squeezed_tight s v) (squeezed_fixed s v) (explore-finds d)
+  explore_finds : (d k : ℕ) (s : Space) → 0 < m → Valid (length xs) m s → Settled k s.lo s.hi → k ≤ m → m < k + d → somes (explore a xs low high d s) ≡ filter (within good s) (sets 1 (length xs) m)
+  explore_finds zero k s pos v z l r = absurd (omega arith)
+  explore_finds (suc d) k s pos v z l r = go (squeezed a xs low high s) (squeezed_tight s v) (squeezed_fixed s v) (explore_finds d)
     where
       go : (q : Option Space) → Tight (Solves a xs low high) (length xs) m s q → Fixed a xs low high q →
           ((k : ℕ) (s : Space) → 0 < m → Valid (length xs) m s → Settled k s.lo s.hi → k ≤ m → m < k + d → somes (explore a xs low high d s) ≡ filter (within good s) (sets 1 (length xs) m)) →
@@ -221,14 +221,14 @@ module _ (a : Algebra) (laws : Laws a) (xs : List Row) (rows : Rows a xs) (low h
       go (Some t) h f ih = part (open_at t.lo t.hi) (open_is t.lo t.hi h.valid.between) ∙ sym (squeezed_some s t v h)
         where
           part : (q : Option ℕ) → Opens t.lo t.hi q → somes (split (explore a xs low high d) t q) ≡ filter (within good t) (sets 1 (length xs) m)
-          part None o = sym (settled-one t h.valid pos f o)
+          part None o = sym (settled_one t h.valid pos f o)
           part (Some i) o =
               let il : i < m = omega (arith, o.0, h.valid.size) in
-              let zt : Settled k t.lo t.hi = settled-within k s.lo t.lo t.hi s.hi h.up h.valid.between h.down z in
+              let zt : Settled k t.lo t.hi = settled_within k s.lo t.lo t.hi s.hi h.up h.valid.between h.down z in
               let ki : k ≤ i = settled_open k t.lo t.hi i zt o.0 o.1 in
-              somes-joined (λ v. explore a xs low high d (child t i v)) (count_from (at t.lo i) (choices t i))
+              somes-flat_map (λ v. explore a xs low high d (child t i v)) (count_from (at t.lo i) (choices t i))
               ∙ joined_same (λ w. somes (explore a xs low high d (child t i w))) (λ w. filter (within good (child t i w)) (sets 1 (length xs) m)) (λ w. (at t.lo i ≤ w) × (w ≤ at t.hi i))
-              (λ w b. ih (suc i) (child t i w) pos (child-valid (length xs) m t i w h.valid il b.0 b.1) (child-settled (length xs) m t i w h.valid il b.0 b.1 o.2) il (omega arith))
+              (λ w b. ih (suc i) (child t i w) pos (child_valid (length xs) m t i w h.valid il b.0 b.1) (child-settled (length xs) m t i w h.valid il b.0 b.1 o.2) il (omega arith))
               (count_from (at t.lo i) (choices t i)) (values t i o.1)
               ∙ sym (children good (length xs) m t i h.valid o)
 
@@ -238,16 +238,16 @@ module _ (a : Algebra) (laws : Laws a) (xs : List Row) (rows : Rows a xs) (low h
 
   holds-lo : (t : Space) → Valid (length xs) m t → 1 ≤ length (filter (within yes t) (sets 1 (length xs) m))
   unfolding yes
-  holds-lo t v = kept_has (within yes t) t.lo (sets 1 (length xs) m) (is_member (length xs) m t.lo (lo_among (length xs) m t v)) (within-from yes t t.lo (below_refl t.lo, v.between) refl)
+  holds-lo t v = kept_has (within yes t) t.lo (sets 1 (length xs) m) (is_member (length xs) m t.lo (lo_among (length xs) m t v)) (within_from yes t t.lo (below_refl t.lo, v.between) refl)
 
   fewer : (s t : Space) → Tighter (Solves a xs low high) (length xs) m s t → length (filter (within yes t) (sets 1 (length xs) m)) ≤ length (filter (within yes s) (sets 1 (length xs) m))
   fewer s t h = kept_fewer (within yes t) (within yes s) (sets 1 (length xs) m) (All-weaker (Among 0 (length xs) m) (λ x. within yes t x ≡ true → within yes s x ≡ true)
-      (λ x am e. let p = within_parts yes t x e in within-from yes s x (below_trans s.lo t.lo x h.up p.0.0, below_trans x t.hi s.hi p.0.1 h.down) p.1) (sets 1 (length xs) m) (members (length xs) m))
+      (λ x am e. let p = within_parts yes t x e in within_from yes s x (below_trans s.lo t.lo x h.up p.0.0, below_trans x t.hi s.hi p.0.1 h.down) p.1) (sets 1 (length xs) m) (members (length xs) m))
 
   -- fewer spaces than twice the sets of places in the first
-  explore-counts : (d : ℕ) (s : Space) → Valid (length xs) m s → suc (length (explore a xs low high d s)) ≤ 2 * length (filter (within yes s) (sets 1 (length xs) m))
-  explore-counts zero s v = omega (arith, holds-lo s v)
-  explore-counts (suc d) s v = go (squeezed a xs low high s) (squeezed_tight s v) (explore-counts d)
+  explore_counts : (d : ℕ) (s : Space) → Valid (length xs) m s → suc (length (explore a xs low high d s)) ≤ 2 * length (filter (within yes s) (sets 1 (length xs) m))
+  explore_counts zero s v = omega (arith, holds-lo s v)
+  explore_counts (suc d) s v = go (squeezed a xs low high s) (squeezed_tight s v) (explore_counts d)
     where
       go : (q : Option Space) → Tight (Solves a xs low high) (length xs) m s q →
           ((s : Space) → Valid (length xs) m s → suc (length (explore a xs low high d s)) ≤ 2 * length (filter (within yes s) (sets 1 (length xs) m))) →
@@ -261,7 +261,7 @@ module _ (a : Algebra) (laws : Laws a) (xs : List Row) (rows : Rows a xs) (low h
               let il : i < m = omega (arith, o.0, h.valid.size) in
               let vs : List ℕ = count_from (at t.lo i) (choices t i) in
               let twice = joined_twice (λ w. explore a xs low high d (child t i w)) (λ w. filter (within yes (child t i w)) (sets 1 (length xs) m)) (λ w. (at t.lo i ≤ w) × (w ≤ at t.hi i))
-              (λ w b. ih (child t i w) (child-valid (length xs) m t i w h.valid il b.0 b.1)) vs (values t i o.1) in
+              (λ w b. ih (child t i w) (child_valid (length xs) m t i w h.valid il b.0 b.1)) vs (values t i o.1) in
               let many : 2 ≤ length vs = omega (arith, length-count_from (at t.lo i) (choices t i), o.1) in
               omega (arith, twice, many, ap length (children yes (length xs) m t i h.valid o))
 
@@ -269,8 +269,8 @@ module _ (a : Algebra) (laws : Laws a) (xs : List Row) (rows : Rows a xs) (low h
   abbrev start : Space
   start = record { lo = count_from 1 m; hi = count_from (suc (length xs - m)) m }
 
-  pub start-valid : m ≤ length xs → Valid (length xs) m start
-  start-valid l = record {
+  pub start_valid : m ≤ length xs → Valid (length xs) m start
+  start_valid l = record {
     rising_lo = count_rising 0 m;
     rising_hi = rising_weaker (length xs - m) 0 (count_from (suc (length xs - m)) m) (omega arith) (count_rising (length xs - m) m);
     between = count_below 1 (suc (length xs - m)) m (omega arith);
@@ -285,13 +285,13 @@ module _ (a : Algebra) (laws : Laws a) (xs : List Row) (rows : Rows a xs) (low h
   )
 
   -- the trace tells the solutions, each once and in order
-  pub trace-finds : 0 < m → m ≤ length xs → somes (trace a xs low high m) ≡ solutions a xs m low high
+  pub trace_finds : 0 < m → m ≤ length xs → somes (trace a xs low high m) ≡ solutions a xs m low high
   unfolding good
-  trace-finds pos l =
-      explore-finds (suc m) 0 start pos (start-valid l) tt (omega arith) (omega arith)
+  trace_finds pos l =
+      explore_finds (suc m) 0 start pos (start_valid l) tt (omega arith) (omega arith)
       ∙ kept_same (within good start) good (sets 1 (length xs) m) (All-weaker (Among 0 (length xs) m) (λ x. within good start x ≡ good x)
-      (λ x am. bool_same (within good start x) (good x) (λ e. (within_parts good start x e).1) (λ e. within-from good start x (start_all x l am) e)) (sets 1 (length xs) m) (members (length xs) m))
+      (λ x am. bool_same (within good start x) (good x) (λ e. (within_parts good start x e).1) (λ e. within_from good start x (start_all x l am) e)) (sets 1 (length xs) m) (members (length xs) m))
 
   -- and is shorter than twice the number of sets
-  pub trace-counts : m ≤ length xs → length (trace a xs low high m) ≤ 2 * length (sets 1 (length xs) m) - 1
-  trace-counts l = omega (arith, explore-counts (suc m) start (start-valid l), kept-most (within yes start) (sets 1 (length xs) m))
+  pub trace_counts : m ≤ length xs → length (trace a xs low high m) ≤ 2 * length (sets 1 (length xs) m) - 1
+  trace_counts l = omega (arith, explore_counts (suc m) start (start_valid l), kept_most (within yes start) (sets 1 (length xs) m))

@@ -47,10 +47,10 @@ pub rising_weaker : (b c : ℕ) (s : List ℕ) → c ≤ b → Rising b s → Ri
 rising_weaker b c [] l r = tt
 rising_weaker b c (x ∷ s) l r = (omega arith, r.1)
 
-pub rising-at : (b : ℕ) (s : List ℕ) (i : ℕ) → i < length s → Rising b s → b + suc i ≤ at s i
-rising-at b [] i l r = omega arith
-rising-at b (x ∷ s) zero l r = omega arith
-rising-at b (x ∷ s) (suc i) l r = let k : i < length s = omega arith in omega (arith, rising-at x s i k r.1)
+pub rising_at : (b : ℕ) (s : List ℕ) (i : ℕ) → i < length s → Rising b s → b + suc i ≤ at s i
+rising_at b [] i l r = omega arith
+rising_at b (x ∷ s) zero l r = omega arith
+rising_at b (x ∷ s) (suc i) l r = let k : i < length s = omega arith in omega (arith, rising_at x s i k r.1)
 
 pub above-rising : (v : ℕ) (lo : List ℕ) → Rising v (above v lo)
 above-rising v [] = tt
@@ -82,20 +82,20 @@ lifted-least b (x ∷ lo) i v [] h r l = absurd h
 lifted-least b (x ∷ lo) zero v (y ∷ s) h r l = (l, above-least v lo s h.1 (rising_weaker y v s l r.1))
 lifted-least b (x ∷ lo) (suc i) v (y ∷ s) h r l = (h.0, lifted-least y lo i v s h.1 r.1 l)
 
-pub lifted-more : (lo : List ℕ) (i v : ℕ) → at lo i ≤ v → Below lo (lifted lo i v)
-lifted-more [] i v l = tt
-lifted-more (x ∷ lo) zero v l = (l, above_more v lo)
-lifted-more (x ∷ lo) (suc i) v l = (omega arith, lifted-more lo i v l)
+pub lifted_more : (lo : List ℕ) (i v : ℕ) → at lo i ≤ v → Below lo (lifted lo i v)
+lifted_more [] i v l = tt
+lifted_more (x ∷ lo) zero v l = (l, above_more v lo)
+lifted_more (x ∷ lo) (suc i) v l = (omega arith, lifted_more lo i v l)
 
-pub lifted-same : (b : ℕ) (lo : List ℕ) (i : ℕ) → Rising b lo → lifted lo i (at lo i) ≡ lo
-lifted-same b [] i r = refl
-lifted-same b (x ∷ lo) zero r = ap (λ t. x ∷ t) (above_same x lo r.1)
-lifted-same b (x ∷ lo) (suc i) r = ap (λ t. x ∷ t) (lifted-same x lo i r.1)
+pub lifted_same : (b : ℕ) (lo : List ℕ) (i : ℕ) → Rising b lo → lifted lo i (at lo i) ≡ lo
+lifted_same b [] i r = refl
+lifted_same b (x ∷ lo) zero r = ap (λ t. x ∷ t) (above_same x lo r.1)
+lifted_same b (x ∷ lo) (suc i) r = ap (λ t. x ∷ t) (lifted_same x lo i r.1)
 
-pub at-lifted : (lo : List ℕ) (i v : ℕ) → i < length lo → at (lifted lo i v) i ≡ v
-at-lifted [] i v l = omega arith
-at-lifted (x ∷ lo) zero v l = refl
-at-lifted (x ∷ lo) (suc i) v l = at-lifted lo i v (omega arith)
+pub at_lifted : (lo : List ℕ) (i v : ℕ) → i < length lo → at (lifted lo i v) i ≡ v
+at_lifted [] i v l = omega arith
+at_lifted (x ∷ lo) zero v l = refl
+at_lifted (x ∷ lo) (suc i) v l = at_lifted lo i v (omega arith)
 
 pub topped-rising : (b : ℕ) (hi : List ℕ) (i v : ℕ) → Rising b hi → b + suc i ≤ v → v ≤ at hi i → Rising b (topped hi i v)
 topped-rising b [] i v r l k = tt
@@ -105,29 +105,29 @@ topped-rising b (x ∷ hi) (suc i) v r l k =
     let below : b < c = omega arith in
     (below, topped-rising c hi i v (rising_weaker x c hi (omega arith) r.1) (omega arith) k)
 
-pub topped-most : (b : ℕ) (s hi : List ℕ) (i v : ℕ) → Below s hi → Rising b s → i < length s → at s i ≤ v → Below s (topped hi i v)
-topped-most b [] [] i v h r l k = tt
-topped-most b [] (y ∷ hi) i v h r l k = absurd h
-topped-most b (x ∷ s) [] i v h r l k = absurd h
-topped-most b (x ∷ s) (y ∷ hi) zero v h r l k = (k, h.1)
-topped-most b (x ∷ s) (y ∷ hi) (suc i) v h r l k =
+pub topped_most : (b : ℕ) (s hi : List ℕ) (i v : ℕ) → Below s hi → Rising b s → i < length s → at s i ≤ v → Below s (topped hi i v)
+topped_most b [] [] i v h r l k = tt
+topped_most b [] (y ∷ hi) i v h r l k = absurd h
+topped_most b (x ∷ s) [] i v h r l k = absurd h
+topped_most b (x ∷ s) (y ∷ hi) zero v h r l k = (k, h.1)
+topped_most b (x ∷ s) (y ∷ hi) (suc i) v h r l k =
     let j : i < length s = omega arith in
-    (omega (arith, rising-at x s i j r.1), topped-most x s hi i v h.1 r.1 j k)
+    (omega (arith, rising_at x s i j r.1), topped_most x s hi i v h.1 r.1 j k)
 
 pub topped_less : (hi : List ℕ) (i v : ℕ) → v ≤ at hi i → Below (topped hi i v) hi
 topped_less [] i v k = tt
 topped_less (x ∷ hi) zero v k = (k, below_refl hi)
 topped_less (x ∷ hi) (suc i) v k = (omega arith, topped_less hi i v k)
 
-pub topped-same : (b : ℕ) (hi : List ℕ) (i : ℕ) → Rising b hi → i < length hi → topped hi i (at hi i) ≡ hi
-topped-same b [] i r l = refl
-topped-same b (x ∷ hi) zero r l = refl
-topped-same b (x ∷ hi) (suc i) r l =
+pub topped_same : (b : ℕ) (hi : List ℕ) (i : ℕ) → Rising b hi → i < length hi → topped hi i (at hi i) ≡ hi
+topped_same b [] i r l = refl
+topped_same b (x ∷ hi) zero r l = refl
+topped_same b (x ∷ hi) (suc i) r l =
     let j : i < length hi = omega arith in
-    let e : min (at hi i - suc i) x ≡ x = omega (arith, rising-at x hi i j r.1) in
-    ap₂ (λ z zs. z ∷ zs) e (topped-same x hi i r.1 j)
+    let e : min (at hi i - suc i) x ≡ x = omega (arith, rising_at x hi i j r.1) in
+    ap₂ (λ z zs. z ∷ zs) e (topped_same x hi i r.1 j)
 
-pub at-topped : (hi : List ℕ) (i v : ℕ) → i < length hi → at (topped hi i v) i ≡ v
-at-topped [] i v l = omega arith
-at-topped (x ∷ hi) zero v l = refl
-at-topped (x ∷ hi) (suc i) v l = at-topped hi i v (omega arith)
+pub at_topped : (hi : List ℕ) (i v : ℕ) → i < length hi → at (topped hi i v) i ≡ v
+at_topped [] i v l = omega arith
+at_topped (x ∷ hi) zero v l = refl
+at_topped (x ∷ hi) (suc i) v l = at_topped hi i v (omega arith)

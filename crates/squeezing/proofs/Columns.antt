@@ -15,21 +15,21 @@ offset_is n k h =
     let d : 2 * n + 1 - k ≡ (2 * n - k) + 1 = omega arith in
     div-eq_of_eq-mul_right (omega arith) (ap (λ x. k * x) d ∙ double n k (2 * n - k) (omega arith) h)
 
-pub offset-next : (n k : ℕ) → offset n (k + 1) ≡ offset n k + (n - k)
+pub offset_next : (n k : ℕ) → offset n (k + 1) ≡ offset n k + (n - k)
 unfolding offset
-offset-next n k = rw add-one refl
+offset_next n k = rw add-one refl
 
 pub offset_up : (n k j : ℕ) → offset n k ≤ offset n (k + j)
 offset_up n k zero = omega (arith, ap (offset n) (let e : k + 0 ≡ k = omega arith in e))
 offset_up n k (suc j) =
     let e : k + suc j ≡ (k + j) + 1 = omega arith in
-    omega (arith, offset_up n k j, ap (offset n) e, offset-next n (k + j))
+    omega (arith, offset_up n k j, ap (offset n) e, offset_next n (k + j))
 
 -- what the column of k + 1 neighbours has lies in the table
-pub offset-within : (n k p : ℕ) → p + k < n → offset n k + p < offset n n
-offset-within n k p h =
+pub offset_within : (n k p : ℕ) → p + k < n → offset n k + p < offset n n
+offset_within n k p h =
     let e : (k + 1) + (n - (k + 1)) ≡ n = omega arith in
-    omega (arith, offset-next n k, offset_up n (k + 1) (n - (k + 1)), ap (offset n) e)
+    omega (arith, offset_next n k, offset_up n (k + 1) (n - (k + 1)), ap (offset n) e)
 
 pub offset_all : (n : ℕ) → n ≤ offset n n
 unfolding offset
@@ -41,16 +41,16 @@ unfolding offset
 offset-zero n = refl
 
 -- the column of k + 1 neighbours begins past the column of k
-pub offset-from : (n k : ℕ) → 1 ≤ k → k ≤ n → offset n k ≡ offset n (k - 1) + (n - k + 1)
-offset-from n k h l =
+pub offset_from : (n k : ℕ) → 1 ≤ k → k ≤ n → offset n k ≡ offset n (k - 1) + (n - k + 1)
+offset_from n k h l =
     let e : k - 1 + 1 ≡ k = omega arith in
-    omega (arith, offset-next n (k - 1), ap (offset n) e)
+    omega (arith, offset_next n (k - 1), ap (offset n) e)
 
 -- and past the entries
-pub offset-past : (n k : ℕ) → 1 ≤ k → n ≤ offset n k
-offset-past n k h =
+pub offset_past : (n k : ℕ) → 1 ≤ k → n ≤ offset n k
+offset_past n k h =
     let e : 1 + (k - 1) ≡ k = omega arith in
-    omega (arith, offset-next n 0, offset-zero n, offset_up n 1 (k - 1), ap (offset n) e)
+    omega (arith, offset_next n 0, offset-zero n, offset_up n 1 (k - 1), ap (offset n) e)
 
 -- fewer columns take no more
 pub offset_fewer : (n k m : ℕ) → k ≤ m → offset n k ≤ offset n m

@@ -50,8 +50,8 @@ module _ (n m : ℕ) (ls hs xs ys : List ℕ) (low : length ls ≡ m) (high : le
   )
 
 -- places that are only narrowed stay settled
-pub kept-settled : (m k : ℕ) (lo hi ls hs xs ys : List ℕ) → m ≡ k → length ls ≡ m → length hs ≡ m → ((j : ℕ) → j < length hs → get_or ls j 0 ≤ get_or hs j 0) → Above (take k lo) ls → Above hs (take k hi) → (j : ℕ) → j < m → get_or lo j 0 ≡ get_or hi j 0 → get_or (ls ++ xs) j 0 ≡ get_or (hs ++ ys) j 0
-kept-settled m k lo hi ls hs xs ys e low high ordered up down j h same =
+pub kept_settled : (m k : ℕ) (lo hi ls hs xs ys : List ℕ) → m ≡ k → length ls ≡ m → length hs ≡ m → ((j : ℕ) → j < length hs → get_or ls j 0 ≤ get_or hs j 0) → Above (take k lo) ls → Above hs (take k hi) → (j : ℕ) → j < m → get_or lo j 0 ≡ get_or hi j 0 → get_or (ls ++ xs) j 0 ≡ get_or (hs ++ ys) j 0
+kept_settled m k lo hi ls hs xs ys e low high ordered up down j h same =
     omega (arith, get_or_append_left ls xs 0 j (omega arith), get_or_append_left hs ys 0 j (omega arith), ordered j (omega arith), up j, down j, get_or-take k lo j 0 (omega arith), get_or-take k hi j 0 (omega arith))
 
 -- as many places as there are, at most

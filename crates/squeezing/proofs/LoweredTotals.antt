@@ -8,23 +8,23 @@ use Rattle.measure.specs.Algebra.{Algebra, Laws, Row}
 use Rattle.sets.specs.Spaces.{greatest, lowered}
 use Rattle.squeezing.specs.Table.{Stands}
 use Rattle.squeezing.specs.Standing.{Back, Places}
-use Rattle.squeezing.proofs.Sums.{Inside, join, inside-append, inside_take, inside-drop, inside_counting, inside-places, places-few}
-use Rattle.squeezing.proofs.Splits.{rises, lowered-split}
+use Rattle.squeezing.proofs.Sums.{Inside, join, inside-append, inside_take, inside-drop, inside_counting, inside-places, places_few}
+use Rattle.squeezing.proofs.Splits.{rises, lowered_split}
 use Rattle.squeezing.proofs.RaisedTotals.{Adds, suffix_more}
 
 greatest_here : (f : ℕ → Bool) (v n : ℕ) → 0 < n → f v ≡ true → greatest f v n ≡ Some v
 greatest_here f v zero h e = absurd (omega arith)
 greatest_here f v (suc n) h e = cond-true _ _ _ e
 
-greatest-next : (f : ℕ → Bool) (v n k : ℕ) → n ≡ k + 1 → f v ≡ false → greatest f v n ≡ greatest f (v - 1) k
-greatest-next f v zero k h e = absurd (omega arith)
-greatest-next f v (suc n) k h e = cond-false _ _ _ e ∙ (let same : n ≡ k = omega arith in ap (greatest f (v - 1)) same)
+greatest_next : (f : ℕ → Bool) (v n k : ℕ) → n ≡ k + 1 → f v ≡ false → greatest f v n ≡ greatest f (v - 1) k
+greatest_next f v zero k h e = absurd (omega arith)
+greatest_next f v (suc n) k h e = cond-false _ _ _ e ∙ (let same : n ≡ k = omega arith in ap (greatest f (v - 1)) same)
 
 pub greatest_to_here : (f : ℕ → Bool) (v bottom : ℕ) → bottom ≤ v → f v ≡ true → greatest f v (v + 1 - bottom) ≡ Some v
 greatest_to_here f v bottom h = greatest_here f v (v + 1 - bottom) (omega arith)
 
 pub greatest_to_next : (f : ℕ → Bool) (v bottom : ℕ) → 1 ≤ bottom → bottom ≤ v → f v ≡ false → greatest f v (v + 1 - bottom) ≡ greatest f (v - 1) (v - 1 + 1 - bottom)
-greatest_to_next f v bottom l h = greatest-next f v (v + 1 - bottom) (v - 1 + 1 - bottom) (omega arith)
+greatest_to_next f v bottom l h = greatest_next f v (v + 1 - bottom) (v - 1 + 1 - bottom) (omega arith)
 
 pub prefix_set : {M : Type 0} (a : Algebra) (row : M → Row) (span : M → ℕ) (n m : ℕ) (table : List M) (lo : List ℕ) (totals : List M) (j : ℕ) (r : M) → j + 1 < length totals → ((k : ℕ) (d : M) → k ≤ j → Stands a row span n m table (take k lo) (get_or totals k d)) → Stands a row span n m table (take (j + 1) lo) r → (k : ℕ) (d : M) → k ≤ j + 1 → Stands a row span n m table (take k lo) (get_or (set totals (j + 1) r) k d)
 prefix_set a row span n m table lo totals j r within rest here k d h =
@@ -46,8 +46,8 @@ module _ {M : Type 0} (a : Algebra) (laws : Laws a) (row : M → Row) (span : M 
       }
 
   -- the three parts together are the lowered places
-  pub lowered-stands : (i e v : ℕ) (x y z xy r : M) → get_or lo i 0 ≤ v → v + length lo ≤ n + i + 1 → (i + 1 < e → get_or lo (e - 1) 0 < v + (e - 1 - i)) → Stands a row span n m table (take i lo) x → Stands a row span n m table (range_with_len v (e - i)) y → Back a row span n m table lo i v e z → Adds a row span x y xy → Adds a row span xy z r → Stands a row span n m table (lowered lo (i + 1) v) r
-  lowered-stands i e v x y z xy r bottom top free sx sy b sum1 sum2 =
+  pub lowered_stands : (i e v : ℕ) (x y z xy r : M) → get_or lo i 0 ≤ v → v + length lo ≤ n + i + 1 → (i + 1 < e → get_or lo (e - 1) 0 < v + (e - 1 - i)) → Stands a row span n m table (take i lo) x → Stands a row span n m table (range_with_len v (e - i)) y → Back a row span n m table lo i v e z → Adds a row span x y xy → Adds a row span xy z r → Stands a row span n m table (lowered lo (i + 1) v) r
+  lowered_stands i e v x y z xy r bottom top free sx sy b sum1 sum2 =
       let past = b.past in
       let end = b.upto in
       let ins = inside-places n lo places in
@@ -55,12 +55,12 @@ module _ {M : Type 0} (a : Algebra) (laws : Laws a) (row : M → Row) (span : M 
       let before : (j : ℕ) → i < j → j < e → get_or lo j 0 < v + (j - i) =
       λ j h k. let q : j + (e - 1 - j) ≡ e - 1 = omega arith in
       omega (arith, free (omega arith), rises n lo places j (e - 1 - j) (omega arith), ap (λ p. get_or lo p 0) q) in
-      let split = lowered-split lo i v e past end b.held before in
+      let split = lowered_split lo i v e past end b.held before in
       let ins_run : Inside n run = inside_counting n v (e - i) (omega (arith, places.least i (omega arith))) (omega arith) in
       let ins_front = inside_take n i lo ins in
       let n_front = length-take-le i lo (omega arith) in
       let n_run = length-range_with_len v (e - i) in
-      let few = places-few n lo places in
+      let few = places_few n lo places in
       let front = join a laws row span own n m table (take i lo) run x y xy ins_front ins_run (omega (arith, n_front, n_run, few, small)) sx sy sum1 in
       rw split (join a laws row span own n m table (take i lo ++ run) (drop e lo) xy z r
       (inside-append n (take i lo) run ins_front ins_run)

@@ -8,7 +8,7 @@ use Rattle.measure.specs.Algebra.{Algebra, Row}
 use Rattle.sets.specs.Spaces.{lower, lower_from}
 use Rattle.squeezing.specs.Standing.{Back, Higher, Above}
 use Rattle.squeezing.proofs.Sums.{stands_none}
-use Rattle.squeezing.proofs.RaisingPass.{set_here, set-each}
+use Rattle.squeezing.proofs.RaisingPass.{set_here, set_each}
 
 -- the upper places from index i on are lowered: each at least its lower place, and rising
 pub record Lowered (i : ℕ) (lo hi : List ℕ) : Type 0 where
@@ -48,19 +48,19 @@ module _ (hi : List ℕ) (i v : ℕ) (within : i < length hi) where
   higher-set n h l top =
       let len = length-set hi i v in
       record {
-        least = λ j k. set-each hi i v within (λ q w. 1 ≤ w) j (λ e. h) (λ ne. top.least j (omega (arith, len)));
-        most = λ j k. set-each hi i v within (λ q w. w + length (set hi i v) ≤ n + q + 1) j (λ e. omega (arith, len)) (λ ne. omega (arith, len, top.most j (omega (arith, len))));
+        least = λ j k. set_each hi i v within (λ q w. 1 ≤ w) j (λ e. h) (λ ne. top.least j (omega (arith, len)));
+        most = λ j k. set_each hi i v within (λ q w. w + length (set hi i v) ≤ n + q + 1) j (λ e. omega (arith, len)) (λ ne. omega (arith, len, top.most j (omega (arith, len))));
       }
 
   pub lowered-set : (lo : List ℕ) → get_or lo i 0 ≤ v → (i + 1 < length hi → v < get_or hi (i + 1) 0) → Lowered (i + 1) lo hi → Lowered i lo (set hi i v)
   lowered-set lo h l s =
       let len = length-set hi i v in
       record {
-        above = λ j k b. set-each hi i v within (λ q w. get_or lo q 0 ≤ w) j (λ e. h) (λ ne. s.above j (omega arith) (omega (arith, len)));
+        above = λ j k b. set_each hi i v within (λ q w. get_or lo q 0 ≤ w) j (λ e. h) (λ ne. s.above j (omega arith) (omega (arith, len)));
         rising = λ j k b.
             let old : get_or (set hi i v) (j + 1) 0 ≡ get_or hi (j + 1) 0 = get_or-set_other hi i (j + 1) v 0 (λ e. omega arith) in
             let step : get_or (set hi i v) j 0 < get_or hi (j + 1) 0 =
-            set-each hi i v within (λ q w. w < get_or hi (q + 1) 0) j (λ e. l (omega (arith, len))) (λ ne. s.rising j (omega arith) (omega (arith, len))) in
+            set_each hi i v within (λ q w. w < get_or hi (q + 1) 0) j (λ e. l (omega (arith, len))) (λ ne. s.rising j (omega arith) (omega (arith, len))) in
             omega (arith, old, step);
       }
 
@@ -68,7 +68,7 @@ module _ (hi : List ℕ) (i v : ℕ) (within : i < length hi) where
   sum-set = sum_by-set (λ x. x) hi i v 0 within
 
   down-set : (was : List ℕ) → v ≤ get_or hi i 0 → Above hi was → Above (set hi i v) was
-  down-set was h down j = set-each hi i v within (λ q w. w ≤ get_or was q 0) j (λ e. omega (arith, down i)) (λ ne. down j)
+  down-set was h down j = set_each hi i v within (λ q w. w ≤ get_or was q 0) j (λ e. omega (arith, down i)) (λ ne. down j)
 
   fell_go : (was : List ℕ) (b : Bool) → eqb v (get_or hi i 0) ≡ b → v ≤ get_or hi i 0 → Fell false was hi → Fell (not b) was (set hi i v)
   fell_go was true e h r =

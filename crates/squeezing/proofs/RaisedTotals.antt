@@ -9,23 +9,23 @@ use Rattle.measure.specs.Algebra.{Algebra, Laws, Row}
 use Rattle.sets.specs.Spaces.{least, raised}
 use Rattle.squeezing.specs.Table.{Stands}
 use Rattle.squeezing.specs.Standing.{Front, Places}
-use Rattle.squeezing.proofs.Sums.{Inside, stands_none, join, inside-append, inside_take, inside-drop, inside_counting, inside-places, places-few}
-use Rattle.squeezing.proofs.Splits.{rises, raised-split}
+use Rattle.squeezing.proofs.Sums.{Inside, stands_none, join, inside-append, inside_take, inside-drop, inside_counting, inside-places, places_few}
+use Rattle.squeezing.proofs.Splits.{rises, raised_split}
 
 pub least_here : (f : ℕ → Bool) (v n : ℕ) → 0 < n → f v ≡ true → least f v n ≡ Some v
 least_here f v zero h e = absurd (omega arith)
 least_here f v (suc n) h e = cond-true _ _ _ e
 
-pub least-next : (f : ℕ → Bool) (v n k : ℕ) → n ≡ k + 1 → f v ≡ false → least f v n ≡ least f (v + 1) k
-least-next f v zero k h e = absurd (omega arith)
-least-next f v (suc n) k h e = cond-false _ _ _ e ∙ (let same : n ≡ k = omega arith in ap (least f (v + 1)) same)
+pub least_next : (f : ℕ → Bool) (v n k : ℕ) → n ≡ k + 1 → f v ≡ false → least f v n ≡ least f (v + 1) k
+least_next f v zero k h e = absurd (omega arith)
+least_next f v (suc n) k h e = cond-false _ _ _ e ∙ (let same : n ≡ k = omega arith in ap (least f (v + 1)) same)
 
 -- the same of the search up to a top
 pub least_to_here : (f : ℕ → Bool) (v top : ℕ) → v ≤ top → f v ≡ true → least f v (top + 1 - v) ≡ Some v
 least_to_here f v top h = least_here f v (top + 1 - v) (omega arith)
 
 pub least_to_next : (f : ℕ → Bool) (v top : ℕ) → v ≤ top → f v ≡ false → least f v (top + 1 - v) ≡ least f (v + 1) (top + 1 - (v + 1))
-least_to_next f v top h = least-next f v (top + 1 - v) (top + 1 - (v + 1)) (omega arith)
+least_to_next f v top h = least_next f v (top + 1 - v) (top + 1 - (v + 1)) (omega arith)
 
 -- `plus` gave r
 abbrev pub Adds : {M : Type 0} → Algebra → (M → Row) → (M → ℕ) → M → M → M → Type 0
@@ -55,7 +55,7 @@ module _ {M : Type 0} (a : Algebra) (laws : Laws a) (row : M → Row) (span : M 
       rw more (join a laws row span own n m table (take s hi) (range_with_len (get_or hi s 0) 1) x y r
       (inside_take n s hi (inside-places n hi upper))
       (inside_counting n (get_or hi s 0) 1 (omega (arith, upper.least s l)) (omega (arith, upper.most s l)))
-      (omega (arith, places-few n hi upper, length-take-le s hi (omega arith), small))
+      (omega (arith, places_few n hi upper, length-take-le s hi (omega arith), small))
       sx sy sum)
 
   -- one upper place more before the stretch
@@ -73,12 +73,12 @@ module _ {M : Type 0} (a : Algebra) (laws : Laws a) (row : M → Row) (span : M 
       rw more (join a laws row span own n m table (range_with_len (get_or hi j 0) 1) (drop (j + 1) hi) x y r
       (inside_counting n (get_or hi j 0) 1 (omega (arith, upper.least j l)) (omega (arith, upper.most j l)))
       (inside-drop n (j + 1) hi (inside-places n hi upper))
-      (omega (arith, places-few n hi upper, length-drop (j + 1) hi, small))
+      (omega (arith, places_few n hi upper, length-drop (j + 1) hi, small))
       sx sy sum)
 
   -- the three parts together are the raised places
-  pub raised-stands : (i s v : ℕ) (x y z xy r : M) → i < length hi → i < v → v ≤ get_or hi i 0 → (s < i → v < get_or hi s 0 + (i - s)) → Front a row span n m table hi i v s x → Stands a row span n m table (range_with_len (v - (i - s)) (i - s + 1)) y → Stands a row span n m table (drop (i + 1) hi) z → Adds a row span x y xy → Adds a row span xy z r → Stands a row span n m table (raised hi (i + 1) v) r
-  raised-stands i s v x y z xy r l enough top free f sy sz sum1 sum2 =
+  pub raised_stands : (i s v : ℕ) (x y z xy r : M) → i < length hi → i < v → v ≤ get_or hi i 0 → (s < i → v < get_or hi s 0 + (i - s)) → Front a row span n m table hi i v s x → Stands a row span n m table (range_with_len (v - (i - s)) (i - s + 1)) y → Stands a row span n m table (drop (i + 1) hi) z → Adds a row span x y xy → Adds a row span xy z r → Stands a row span n m table (raised hi (i + 1) v) r
+  raised_stands i s v x y z xy r l enough top free f sy sz sum1 sum2 =
       let start = f.start in
       let below = f.held in
       let sx = f.stands in
@@ -87,12 +87,12 @@ module _ {M : Type 0} (a : Algebra) (laws : Laws a) (row : M → Row) (span : M 
       let past : (j : ℕ) → s ≤ j → j < i → v < get_or hi j 0 + (i - j) =
       λ j h k. let e : s + (j - s) ≡ j = omega arith in
       omega (arith, free (omega arith), rises n hi upper s (j - s) (omega arith), ap (λ p. get_or hi p 0) e) in
-      let split = raised-split hi i v s l start enough below past in
+      let split = raised_split hi i v s l start enough below past in
       let ins_run : Inside n run = inside_counting n (v - (i - s)) (i - s + 1) (omega arith) (omega (arith, upper.most i l)) in
       let ins_front = inside_take n s hi ups in
       let n_front = length-take-le s hi (omega arith) in
       let n_run = length-range_with_len (v - (i - s)) (i - s + 1) in
-      let few = places-few n hi upper in
+      let few = places_few n hi upper in
       let front = join a laws row span own n m table (take s hi) run x y xy ins_front ins_run (omega (arith, n_front, n_run, few, small)) sx sy sum1 in
       rw split (join a laws row span own n m table (take s hi ++ run) (drop (i + 1) hi) xy z r
       (inside-append n (take s hi) run ins_front ins_run)

@@ -45,8 +45,8 @@ module _ (lo : List ℕ) (i v : ℕ) (within : i < length lo) where
   set_here = get_or-set_same lo i v 0 within
 
   -- what holds of the old place elsewhere and of v at i holds of the new places
-  pub set-each : (P : ℕ → ℕ → Type 0) (j : ℕ) → (j ≡ i → P i v) → ((j ≡ i → ⊥) → P j (get_or lo j 0)) → P j (get_or (set lo i v) j 0)
-  set-each P j here other =
+  pub set_each : (P : ℕ → ℕ → Type 0) (j : ℕ) → (j ≡ i → P i v) → ((j ≡ i → ⊥) → P j (get_or lo j 0)) → P j (get_or (set lo i v) j 0)
+  set_each P j here other =
       ⊎_elim
       (λ e. subst (λ q. P q (get_or (set lo i v) q 0)) (sym e) (subst (λ w. P i w) (sym set_here) (here e)))
       (λ ne. subst (λ w. P j w) (sym (get_or-set_other lo i j v 0 ne)) (other ne))
@@ -54,17 +54,17 @@ module _ (lo : List ℕ) (i v : ℕ) (within : i < length lo) where
 
   pub lower-set : (n : ℕ) → i < v → v ≤ n → Lower n lo → Lower n (set lo i v)
   lower-set n h l low = record {
-    least = λ j k. set-each (λ q w. q + 1 ≤ w) j (λ e. omega arith) (λ ne. low.least j (omega (arith, length-set lo i v)));
-    most = λ j k. set-each (λ q w. w ≤ n) j (λ e. l) (λ ne. low.most j (omega (arith, length-set lo i v)));
+    least = λ j k. set_each (λ q w. q + 1 ≤ w) j (λ e. omega arith) (λ ne. low.least j (omega (arith, length-set lo i v)));
+    most = λ j k. set_each (λ q w. w ≤ n) j (λ e. l) (λ ne. low.most j (omega (arith, length-set lo i v)));
   }
 
   pub settled-set : (hi : List ℕ) → v ≤ get_or hi i 0 → (0 < i → get_or lo (i - 1) 0 < v) → Settled i lo hi → Settled (i + 1) (set lo i v) hi
   settled-set hi h l s = record {
-    below = λ j k. set-each (λ q w. w ≤ get_or hi q 0) j (λ e. h) (λ ne. s.below j (omega arith));
+    below = λ j k. set_each (λ q w. w ≤ get_or hi q 0) j (λ e. h) (λ ne. s.below j (omega arith));
     rising = λ j k.
         let old : get_or (set lo i v) j 0 ≡ get_or lo j 0 = get_or-set_other lo i j v 0 (λ e. omega arith) in
         let step : get_or lo j 0 < get_or (set lo i v) (j + 1) 0 =
-        set-each (λ q w. get_or lo j 0 < w) (j + 1) (λ e. (let p : i - 1 ≡ j = omega arith in omega (arith, l (omega arith), ap (λ q. get_or lo q 0) p))) (λ ne. s.rising j (omega arith)) in
+        set_each (λ q w. get_or lo j 0 < w) (j + 1) (λ e. (let p : i - 1 ≡ j = omega arith in omega (arith, l (omega arith), ap (λ q. get_or lo q 0) p))) (λ ne. s.rising j (omega arith)) in
         omega (arith, old, step);
   }
 
@@ -72,7 +72,7 @@ module _ (lo : List ℕ) (i v : ℕ) (within : i < length lo) where
   sum-set = sum_by-set (λ x. x) lo i v 0 within
 
   up-set : (was : List ℕ) → get_or lo i 0 ≤ v → Above was lo → Above was (set lo i v)
-  up-set was h up j = set-each (λ q w. get_or was q 0 ≤ w) j (λ e. omega (arith, up i)) (λ ne. up j)
+  up-set was h up j = set_each (λ q w. get_or was q 0 ≤ w) j (λ e. omega (arith, up i)) (λ ne. up j)
 
   rose_go : (was : List ℕ) (b : Bool) → eqb v (get_or lo i 0) ≡ b → get_or lo i 0 ≤ v → Rose false was lo → Rose (not b) was (set lo i v)
   rose_go was true e h r =

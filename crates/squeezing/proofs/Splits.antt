@@ -40,8 +40,8 @@ module _ (hi : List ℕ) (i v : ℕ) where
     front_length : length (take s hi) ≡ s
     front_length = length-take-le s hi (omega arith)
 
-    both-length : length (take s hi ++ stretch) ≡ i + 1
-    both-length = length-append (take s hi) stretch ∙ omega (arith, front_length, length-range_with_len (v - (i - s)) (i - s + 1))
+    both_length : length (take s hi ++ stretch) ≡ i + 1
+    both_length = length-append (take s hi) stretch ∙ omega (arith, front_length, length-range_with_len (v - (i - s)) (i - s + 1))
 
     abbrev all : List ℕ
     all = (take s hi ++ stretch) ++ drop (i + 1) hi
@@ -50,7 +50,7 @@ module _ (hi : List ℕ) (i v : ℕ) where
     front k h =
         high_below k (omega arith)
         ∙ (let e : min (v - (i - k)) (get_or hi k 0) ≡ get_or hi k 0 = omega (arith, held k h) in e)
-        ∙ sym (get_or_append_left (take s hi ++ stretch) (drop (i + 1) hi) 0 k (omega (arith, both-length))
+        ∙ sym (get_or_append_left (take s hi ++ stretch) (drop (i + 1) hi) 0 k (omega (arith, both_length))
         ∙ get_or_append_left (take s hi) stretch 0 k (omega (arith, front_length))
         ∙ get_or-take s hi k 0 h)
 
@@ -64,7 +64,7 @@ module _ (hi : List ℕ) (i v : ℕ) where
     middle : (k : ℕ) → s ≤ k → k < i + 1 → as_high hi (i + 1) v (k + 1) ≡ get_or all k 0
     middle k h l =
         stretched k h l
-        ∙ sym (get_or_append_left (take s hi ++ stretch) (drop (i + 1) hi) 0 k (omega (arith, both-length))
+        ∙ sym (get_or_append_left (take s hi ++ stretch) (drop (i + 1) hi) 0 k (omega (arith, both_length))
         ∙ get_or-append_right (take s hi) stretch s k 0 front_length h
         ∙ get_or-range_with_len (v - (i - s)) (i - s + 1) (k - s) 0 (omega arith)
         ∙ (let e : v - (i - s) + (k - s) ≡ v - (i - k) = omega arith in e))
@@ -72,7 +72,7 @@ module _ (hi : List ℕ) (i v : ℕ) where
     back : (k : ℕ) → i < k → as_high hi (i + 1) v (k + 1) ≡ get_or all k 0
     back k h =
         high-above k h
-        ∙ sym (get_or-append_right (take s hi ++ stretch) (drop (i + 1) hi) (i + 1) k 0 both-length (omega arith)
+        ∙ sym (get_or-append_right (take s hi ++ stretch) (drop (i + 1) hi) (i + 1) k 0 both_length (omega arith)
         ∙ get_or-drop (i + 1) hi (k - (i + 1)) 0
         ∙ (let e : i + 1 + (k - (i + 1)) ≡ k = omega arith in ap (λ j. get_or hi j 0) e))
 
@@ -83,19 +83,19 @@ module _ (hi : List ℕ) (i v : ℕ) where
         (λ past. ⊎_elim (λ below. middle k past below) (λ beyond. back k (omega arith)) (cases_lt k (i + 1)))
         (cases_lt k s)
 
-    pub raised-split : raised hi (i + 1) v ≡ (take s hi ++ stretch) ++ drop (i + 1) hi
-    raised-split =
+    pub raised_split : raised hi (i + 1) v ≡ (take s hi ++ stretch) ++ drop (i + 1) hi
+    raised_split =
         ext_get_or 0 _ _
-        (length-map-range_with_len (as_high hi (i + 1) v) 1 (length hi) ∙ sym (length-append (take s hi ++ stretch) (drop (i + 1) hi) ∙ omega (arith, both-length, length-drop (i + 1) hi)))
+        (length-map-range_with_len (as_high hi (i + 1) v) 1 (length hi) ∙ sym (length-append (take s hi ++ stretch) (drop (i + 1) hi) ∙ omega (arith, both_length, length-drop (i + 1) hi)))
         (λ k h. get_or-map-range_with_len (as_high hi (i + 1) v) 1 (length hi) k (k + 1) 0 (omega (arith, h, length-map-range_with_len (as_high hi (i + 1) v) 1 (length hi))) (omega arith) ∙ here k (omega (arith, h, length-map-range_with_len (as_high hi (i + 1) v) 1 (length hi))))
 
 -- The lowered places are three stretches too: lower places, neighbours that begin with v, lower places again.
 module _ (lo : List ℕ) (i v : ℕ) where
-  low-next : (k : ℕ) → at lo (k + 1) ≡ get_or lo k 0
-  low-next k = let e : k + 1 - 1 ≡ k = omega arith in ap (λ j. get_or lo j 0) e
+  low_next : (k : ℕ) → at lo (k + 1) ≡ get_or lo k 0
+  low_next k = let e : k + 1 - 1 ≡ k = omega arith in ap (λ j. get_or lo j 0) e
 
   low_below : (k : ℕ) → k < i → as_low lo (i + 1) v (k + 1) ≡ get_or lo k 0
-  low_below k h = cond-true _ _ _ (lt-ltb (k + 1) (i + 1) (omega arith)) ∙ low-next k
+  low_below k h = cond-true _ _ _ (lt-ltb (k + 1) (i + 1) (omega arith)) ∙ low_next k
 
   low_here : as_low lo (i + 1) v (i + 1) ≡ v
   low_here = cond-false _ _ _ (le-ltb (i + 1) (i + 1) (omega arith)) ∙ cond-true _ _ _ (eq-eqb (i + 1) (i + 1) refl)
@@ -104,7 +104,7 @@ module _ (lo : List ℕ) (i v : ℕ) where
   low-above k h =
       cond-false _ _ _ (le-ltb (k + 1) (i + 1) (omega arith))
       ∙ cond-false _ _ _ (ne_eqb (k + 1) (i + 1) (λ e. omega arith))
-      ∙ ap (max (v + (k + 1 - (i + 1)))) (low-next k)
+      ∙ ap (max (v + (k + 1 - (i + 1)))) (low_next k)
       ∙ (let e : (k + 1 - (i + 1)) ≡ k - i = omega arith in ap (λ d. max (v + d) (get_or lo k 0)) e)
 
   module _ (e : ℕ) (past : i < e) (end : e ≤ length lo) (held : (j : ℕ) → e ≤ j → j < length lo → v + (j - i) ≤ get_or lo j 0) (free : (j : ℕ) → i < j → j < e → get_or lo j 0 < v + (j - i)) where
@@ -156,8 +156,8 @@ module _ (lo : List ℕ) (i v : ℕ) where
         (λ from. ⊎_elim (λ below. body k from below) (λ beyond. tail k beyond h) (cases_lt k e))
         (cases_lt k i)
 
-    pub lowered-split : lowered lo (i + 1) v ≡ (take i lo ++ run) ++ drop e lo
-    lowered-split =
+    pub lowered_split : lowered lo (i + 1) v ≡ (take i lo ++ run) ++ drop e lo
+    lowered_split =
         let many = length-map-range_with_len (as_low lo (i + 1) v) 1 (length lo) in
         ext_get_or 0 _ _
         (many ∙ sym (length-append (take i lo ++ run) (drop e lo) ∙ omega (arith, heads_length, length-drop e lo)))

@@ -65,8 +65,8 @@ same_eq (x ∷ xs) (y ∷ ys) e =
     ap (λ z. z ∷ xs) heads ∙ ap (λ zs. y ∷ zs) tails
 
 -- nothing moved
-pub still-same : (rose fell : Bool) (lo lo' hi hi' : List ℕ) → (rose || fell) ≡ false → Rose rose lo lo' → Fell fell hi hi' → (same lo lo' && same hi hi') ≡ true
-still-same rose fell lo lo' hi hi' e r f =
+pub still_same : (rose fell : Bool) (lo lo' hi hi' : List ℕ) → (rose || fell) ≡ false → Rose rose lo lo' → Fell fell hi hi' → (same lo lo' && same hi hi') ≡ true
+still_same rose fell lo lo' hi hi' e r f =
     let none = or_parts rose fell e in
     and_from (same lo lo') (same hi hi')
     (ap (same lo) (r.still none.0) ∙ same_self lo)
@@ -104,8 +104,8 @@ module _ (a : Algebra) (xs : List Row) (low high : Row) (lo hi : List ℕ) where
   pub pass_no_fall : (l : List ℕ) → raise_from a xs low hi 1 (length hi) lo ≡ Some l → lower_from a xs high l (length l) hi ≡ None → pass a xs low high (space lo hi) ≡ None
   pass_no_fall l e f = pass_rise l e ∙ ap (λ (o : Option (List ℕ)). elim o [ None ↦ None | Some h ↦ Some (space l h) ]) f
 
-  pub pass-both : (l h : List ℕ) → raise_from a xs low hi 1 (length hi) lo ≡ Some l → lower_from a xs high l (length l) hi ≡ Some h → pass a xs low high (space lo hi) ≡ Some (space l h)
-  pass-both l h e f = pass_rise l e ∙ ap (λ (o : Option (List ℕ)). elim o [ None ↦ None | Some h ↦ Some (space l h) ]) f
+  pub pass_both : (l h : List ℕ) → raise_from a xs low hi 1 (length hi) lo ≡ Some l → lower_from a xs high l (length l) hi ≡ Some h → pass a xs low high (space lo hi) ≡ Some (space l h)
+  pass_both l h e f = pass_rise l e ∙ ap (λ (o : Option (List ℕ)). elim o [ None ↦ None | Some h ↦ Some (space l h) ]) f
 
 module _ (a : Algebra) (xs : List Row) (low high : Row) where
   abbrev next : ℕ → Space → Option Space → Option Space
@@ -115,21 +115,21 @@ module _ (a : Algebra) (xs : List Row) (low high : Row) where
   squeeze_none zero s e = e
   squeeze_none (suc f) s e = ap (next f s) e
 
-  pub squeeze-still : (f : ℕ) (s t : Space) → pass a xs low high s ≡ Some t → (same s.lo t.lo && same s.hi t.hi) ≡ true → squeeze a xs low high f s ≡ Some t
-  squeeze-still zero s t e h = e
-  squeeze-still (suc f) s t e h = ap (next f s) e ∙ cond-true _ _ _ h
+  pub squeeze_still : (f : ℕ) (s t : Space) → pass a xs low high s ≡ Some t → (same s.lo t.lo && same s.hi t.hi) ≡ true → squeeze a xs low high f s ≡ Some t
+  squeeze_still zero s t e h = e
+  squeeze_still (suc f) s t e h = ap (next f s) e ∙ cond-true _ _ _ h
 
-  pub squeeze-moved : (f : ℕ) (s t : Space) → pass a xs low high s ≡ Some t → (same s.lo t.lo && same s.hi t.hi) ≡ false → squeeze a xs low high (suc f) s ≡ squeeze a xs low high f t
-  squeeze-moved f s t e h = ap (next f s) e ∙ cond-false _ _ _ h
+  pub squeeze_moved : (f : ℕ) (s t : Space) → pass a xs low high s ≡ Some t → (same s.lo t.lo && same s.hi t.hi) ≡ false → squeeze a xs low high (suc f) s ≡ squeeze a xs low high f t
+  squeeze_moved f s t e h = ap (next f s) e ∙ cond-false _ _ _ h
 
   -- one turn more: some fuel is left for the narrower space
-  pub squeeze-more : (H : Type 0) (f : ℕ) (whole : Option Space) (s t : Space) → widths s.lo s.hi ≤ f → widths t.lo t.hi < widths s.lo s.hi → (H → whole ≡ squeeze a xs low high f s) → (H → pass a xs low high s ≡ Some t) → (same s.lo t.lo && same s.hi t.hi) ≡ false → (k : ℕ) × (widths t.lo t.hi ≤ k) × (H → whole ≡ squeeze a xs low high k t)
-  squeeze-more H zero whole s t enough less e p h = absurd (omega arith)
-  squeeze-more H (suc f) whole s t enough less e p h = (f, omega arith, λ held. e held ∙ squeeze-moved f s t (p held) h)
+  pub squeeze_more : (H : Type 0) (f : ℕ) (whole : Option Space) (s t : Space) → widths s.lo s.hi ≤ f → widths t.lo t.hi < widths s.lo s.hi → (H → whole ≡ squeeze a xs low high f s) → (H → pass a xs low high s ≡ Some t) → (same s.lo t.lo && same s.hi t.hi) ≡ false → (k : ℕ) × (widths t.lo t.hi ≤ k) × (H → whole ≡ squeeze a xs low high k t)
+  squeeze_more H zero whole s t enough less e p h = absurd (omega arith)
+  squeeze_more H (suc f) whole s t enough less e p h = (f, omega arith, λ held. e held ∙ squeeze_moved f s t (p held) h)
 
 -- what a pass that comes to its end leaves
 pub passed : (a : Algebra) (xs : List Row) (low high : Row) (H : Type 0) (n : ℕ) (lo hi lo' hi' : List ℕ) (rose fell : Bool) → Swept H n hi lo lo' (raise_from a xs low hi 1 (length hi) lo) rose → Sunk H n lo' hi hi' (lower_from a xs high lo' (length lo') hi) fell → (H → pass a xs low high (space lo hi) ≡ Some (space lo' hi')) × Fair n lo' hi'
 passed a xs low high H n lo hi lo' hi' rose fell s t = (
-  λ held. pass-both a xs low high lo hi lo' hi' (s.found held) (t.found held),
+  λ held. pass_both a xs low high lo hi lo' hi' (s.found held) (t.found held),
   sunk_fair H n lo' hi hi' _ fell (swept_places H n hi lo lo' _ rose s) t,
 )

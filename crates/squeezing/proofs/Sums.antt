@@ -17,9 +17,9 @@ inside-append n [] qs i j = j
 inside-append n (p ∷ ps) qs i j = (i.0, i.1, inside-append n ps qs i.2 j)
 
 -- places that are known one by one
-pub inside-each : (n : ℕ) (ps : List ℕ) → ((j : ℕ) → j < length ps → (1 ≤ get_or ps j 0) × (get_or ps j 0 ≤ n)) → Inside n ps
-inside-each n [] h = tt
-inside-each n (p ∷ ps) h = ((h 0 (omega arith)).0, (h 0 (omega arith)).1, inside-each n ps (λ j l. h (suc j) (omega arith)))
+pub inside_each : (n : ℕ) (ps : List ℕ) → ((j : ℕ) → j < length ps → (1 ≤ get_or ps j 0) × (get_or ps j 0 ≤ n)) → Inside n ps
+inside_each n [] h = tt
+inside_each n (p ∷ ps) h = ((h 0 (omega arith)).0, (h 0 (omega arith)).1, inside_each n ps (λ j l. h (suc j) (omega arith)))
 
 pub stands_none : {M : Type 0} (a : Algebra) (row : M → Row) (span : M → ℕ) (n m : ℕ) (table : List M) (r : M) → (row r ≡ a.nothing) × (span r ≡ 0) → Stands a row span n m table [] r
 stands_none a row span n m table r e = record { stood = λ held. record { row_is = e.0; span_le = omega (arith, e.1) } }
@@ -36,8 +36,8 @@ module _ (a : Algebra) (laws : Laws a) (xs : List Row) (own : (p : ℕ) → 1 �
       ∙ sym (laws.plus_assoc _ _ _ (own p i.0 i.1) (total-own ps i.2) (total-own qs j))
 
   -- a sum that `plus` gives stands for both sets of places together
-  pub stands-plus : {M : Type 0} (row : M → Row) (span : M → ℕ) (ps qs : List ℕ) (x y r : M) → Inside (length xs) ps → Inside (length xs) qs → length ps + length qs ≤ 240 → Stood a row span xs ps x → Stood a row span xs qs y → (span x + span y ≤ 240 → (row r ≡ a.plus (row x) (row y)) × (span r ≤ span x + span y)) → Stood a row span xs (ps ++ qs) r
-  stands-plus row span ps qs x y r i j few s t sum =
+  pub stands_plus : {M : Type 0} (row : M → Row) (span : M → ℕ) (ps qs : List ℕ) (x y r : M) → Inside (length xs) ps → Inside (length xs) qs → length ps + length qs ≤ 240 → Stood a row span xs ps x → Stood a row span xs qs y → (span x + span y ≤ 240 → (row r ≡ a.plus (row x) (row y)) × (span r ≤ span x + span y)) → Stood a row span xs (ps ++ qs) r
+  stands_plus row span ps qs x y r i j few s t sum =
       let small : span x + span y ≤ 240 = omega (arith, s.span_le, t.span_le) in
       let got = sum small in
       record {
@@ -50,13 +50,13 @@ pub entries-length : {M : Type 0} (row : M → Row) (n : ℕ) (table : List M) �
 entries-length row n table h = length-map (take n table) row ∙ length-take n table ∙ (omega arith)
 
 module _ {M : Type 0} (a : Algebra) (row : M → Row) (own : (x : M) → a.own (row x) ≡ true) where
-  pub each-own : (ys : List M) (k : ℕ) → k < length (map row ys) → a.own (get_or (map row ys) k []) ≡ true
-  each-own [] k l = absurd (omega arith)
-  each-own (y ∷ ys) zero l = own y
-  each-own (y ∷ ys) (suc k) l = each-own ys k (omega arith)
+  pub each_own : (ys : List M) (k : ℕ) → k < length (map row ys) → a.own (get_or (map row ys) k []) ≡ true
+  each_own [] k l = absurd (omega arith)
+  each_own (y ∷ ys) zero l = own y
+  each_own (y ∷ ys) (suc k) l = each_own ys k (omega arith)
 
   pub entries-own : (n : ℕ) (table : List M) (p : ℕ) → 1 ≤ p → p ≤ length (entries row n table) → a.own (at_place (entries row n table) p) ≡ true
-  entries-own n table p h l = each-own (take n table) (p - 1) (omega arith)
+  entries-own n table p h l = each_own (take n table) (p - 1) (omega arith)
 
 pub inside_take : (n k : ℕ) (ps : List ℕ) → Inside n ps → Inside n (take k ps)
 inside_take n zero ps i = tt
@@ -73,11 +73,11 @@ inside_counting n p zero h l = tt
 inside_counting n p (suc k) h l = (h, omega arith, inside_counting n (p + 1) k (omega arith) (omega arith))
 
 pub inside-places : (n : ℕ) (hi : List ℕ) → Places n hi → Inside n hi
-inside-places n hi u = inside-each n hi (λ j l. (omega (arith, u.least j l), u.most j l))
+inside-places n hi u = inside_each n hi (λ j l. (omega (arith, u.least j l), u.most j l))
 
-pub places-few : (n : ℕ) (hi : List ℕ) → Places n hi → length hi ≤ n
-places-few n [] u = omega arith
-places-few n (h ∷ hi) u = omega (arith, u.least (length hi) (omega arith), u.most (length hi) (omega arith))
+pub places_few : (n : ℕ) (hi : List ℕ) → Places n hi → length hi ≤ n
+places_few n [] u = omega arith
+places_few n (h ∷ hi) u = omega (arith, u.least (length hi) (omega arith), u.most (length hi) (omega arith))
 
 -- what the code adds up: where the table holds, the total of what was put together
 module _ {M : Type 0} (a : Algebra) (laws : Laws a) (row : M → Row) (span : M → ℕ) (own : (x : M) → a.own (row x) ≡ true) (n m : ℕ) (table : List M) where
@@ -85,5 +85,5 @@ module _ {M : Type 0} (a : Algebra) (laws : Laws a) (row : M → Row) (span : M 
   join ps qs x y r i j few s t sum = record {
     stood = λ held.
         let count_is : length (entries row n table) ≡ n = entries-length row n table held.enough in
-        stands-plus a laws (entries row n table) (entries-own a row own n table) row span ps qs x y r (rw count_is i) (rw count_is j) few (s.stood held) (t.stood held) sum;
+        stands_plus a laws (entries row n table) (entries-own a row own n table) row span ps qs x y r (rw count_is i) (rw count_is j) few (s.stood held) (t.stood held) sum;
   }

@@ -2,7 +2,7 @@ use Rattle.std.proofs.Common.{◌≡◌, ◌+◌, ◌-◌, ◌<◌, min, not, lt
 use Rattle.std.proofs.lemmas.Bool.{true≢false}
 use Rattle.std.proofs.lemmas.List.{length-take-le}
 use Rattle.crossed.specs.Books.{insertion_point, enters, if_ok, put}
-use Rattle.crossed.proofs.Firsts.{first-within}
+use Rattle.crossed.proofs.Firsts.{first_within}
 use Rattle.crossed.proofs.Calls.{ok_room, after_enter}
 use Rattle.crossed.proofs.rolls.enter_in.Goals as goal
 
@@ -15,7 +15,7 @@ insert-requires c =
     let room : length (take n cells) < min 120 (length cells) = ok_room c.args.columns (length cells) (take n cells) c.args.one ok in
     let k : length (take n cells) ≡ n = length-take-le n cells c.requires in
     let s = c.find_gap-index.ensures ∙ ap (λ i. insertion_point c.args.one.number (take i cells)) z in
-    omega (arith, length-take-le (n + 1 - 0) cells (omega arith), first-within (λ x. not (ltb x.number c.args.one.number)) (take n cells))
+    omega (arith, length-take-le (n + 1 - 0) cells (omega arith), first_within (λ x. not (ltb x.number c.args.one.number)) (take n cells))
 
 pub returns-in-Err : goal.returns-in-Err
 returns-in-Err c =

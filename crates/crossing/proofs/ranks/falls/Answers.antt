@@ -3,7 +3,7 @@ use Rattle.std.proofs.lemmas.Int.{ints}
 use Rattle.std.proofs.lemmas.List.{get_or_default}
 use Rattle.crossed.specs.Entries.{zero_entry}
 use Rattle.crossing.specs.Ranks.{Fallen}
-use Rattle.crossing.proofs.Falling.{fell_none, fell-more, fell_all}
+use Rattle.crossing.proofs.Falling.{fell_none, fell_more, fell_all}
 use Rattle.crossing.proofs.ranks.falls.Goals as goal
 
 pub loop-i-init : goal.loop-i-init
@@ -17,7 +17,7 @@ loop-i-preserved c = λ ranged.
     let i = c.loop-i.i in
     let x = get_or xs (i - 1) zero_entry in
     let y = get_or xs i zero_entry in
-    fell-more xs i x y c.loop-i.most c.fall.result c.greater-most.result ranged c.loop-i.auto.i c.loop-i-test.true
+    fell_more xs i x y c.loop-i.most c.fall.result c.greater-most.result ranged c.loop-i.auto.i c.loop-i-test.true
     (get_or_default xs (i - 1) zero_entry x (omega arith)) (get_or_default xs i zero_entry y c.loop-i-test.true)
     c.fall.ensures c.greater-most.ensures (c.loop-i.invariant ranged)
 

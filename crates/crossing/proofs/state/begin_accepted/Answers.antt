@@ -4,7 +4,7 @@ use Rattle.exploring.specs.Meaning.{coming, count_of, size_of, table_of}
 use Rattle.crossing.specs.Ranks.{ranks, rank_row, row_of, rows_of}
 use Rattle.crossing.specs.Meaning.{Moderate, later}
 use Rattle.crossing.specs.Beginning.{course_of}
-use Rattle.crossing.proofs.Starting.{shadowed_on, moderate, least-most, first_items, all_comes}
+use Rattle.crossing.proofs.Starting.{shadowed_on, moderate, least_most, first_items, all_comes}
 use Rattle.crossing.proofs.state.begin_accepted.Goals as goal
 
 pub returns : goal.returns
@@ -21,7 +21,7 @@ returns c = λ ranged.
     let same = c.restart.ensures.same in
     let over = shadowed_on (row_of α) (falls 3 (rows_of xs)) xs q was s t are.are same (c.over_shadows-straight.ensures ranged are.fallen) in
     let mild = subst Moderate (sym is) (moderate α q (length xs) (length was) are.fallen c.requires) in
-    let few : course.rank ≤ 7260 = omega (arith, ap (λ d. d.rank) is, least-most (length xs) q.size c.requires.most c.requires.few) in
+    let few : course.rank ≤ 7260 = omega (arith, ap (λ d. d.rank) is, least_most (length xs) q.size c.requires.most c.requires.few) in
     let first = first_items s t course (course_of α q (length xs) q.size) (coming ranks rank_row t) _ _ is same c.restart.ensures.comes (c.low_end.ensures mild few) (c.high_end.ensures mild few) in
     record {
       over = over;

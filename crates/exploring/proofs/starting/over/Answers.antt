@@ -1,12 +1,12 @@
 use Rattle.std.proofs.Common.{length, refl, ◌∙◌}
 use Rattle.exploring.specs.Waiting.{explore_of}
-use Rattle.exploring.proofs.Rooting.{fits-long, first-planned, begun_sound}
+use Rattle.exploring.proofs.Rooting.{fits_long, first-planned, begun_sound}
 use Rattle.exploring.proofs.starting.over.Goals as goal
 
 pub invariant_of-result : goal.invariant_of-result
 invariant_of-result g c =
     let is = c.plan_over-frontier.ensures in
-    record { long = fits-long c.args.n c.args.m (length c.args.table.now) _ _ is.count is.size }
+    record { long = fits_long c.args.n c.args.m (length c.args.table.now) _ _ is.count is.size }
 
 pub returns : goal.returns
 returns g c =

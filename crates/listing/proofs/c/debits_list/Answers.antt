@@ -4,7 +4,7 @@ use Rattle.std.proofs.lemmas.Int.{to_z-of_z}
 use Rattle.roll.specs.Refusals.{number_of}
 use Rattle.listing.specs.Listing.{listing, as_number}
 use Rattle.listing.specs.Text.{Told}
-use Rattle.listing.proofs.Written.{written-within, written_refusal}
+use Rattle.listing.proofs.Written.{written_within, written_refusal}
 use Rattle.listing.proofs.c.debits_list.Goals as goal
 
 -- a number that fits is converted as it is
@@ -28,7 +28,7 @@ returns-in-Ok-clause-lines c = λ h.
     let out = c.args.out.now in
     let n = c.in-Ok.n in
     let told = c.in-Ok.ensures.lines in
-    let small : n < 9223372036854775808 = omega (arith, written-within out (listing 120 1600 c.args.file.now) n told.answer) in
+    let small : n < 9223372036854775808 = omega (arith, written_within out (listing 120 1600 c.args.file.now) n told.answer) in
     let fits : SFits w64 (pos n) = search rules in
     let is : c.unwrap_or.result ≡ pos n = c.unwrap_or.ensures ∙ converts c.try_from.result (SFits w64 (pos n)) (pos n) (pos 9223372036854775807) c.try_from.ensures fits in
     record { answer = ap (λ z. to_z w64 (of_z w64 z)) is ∙ to_z-of_z w64 (pos n) fits ∙ ap as_number told.answer; output = told.output }

@@ -1,7 +1,7 @@
 use Rattle.std.proofs.Common.{replicate, refl, ap, ◌∙◌, arith}
 use Rattle.listing.specs.Listing.{listing}
 use Rattle.listing.proofs.Exactly.{searches_are_exact}
-use Rattle.listing.proofs.Written.{fits_whole, short-whole}
+use Rattle.listing.proofs.Written.{fits_whole, short_whole}
 use Rattle.listing.proofs.listing.list.Goals as goal
 
 pub returns-in-Some : goal.returns-in-Some
@@ -16,7 +16,7 @@ returns-in-Some c =
 
 pub returns-in-None : goal.returns-in-None
 returns-in-None c =
-    let whole = short-whole c.args.out.now c.put_listing.new.out (listing 120 1600 c.args.file.now) c.in-None.ensures.text in
+    let whole = short_whole c.args.out.now c.put_listing.new.out (listing 120 1600 c.args.file.now) c.in-None.ensures.text in
     let zero = c.blank.ensures ∙ ap (λ n. replicate n 0) c.put_listing.auto.out in
     record {
       output = (refl, zero);

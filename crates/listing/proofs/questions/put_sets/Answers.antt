@@ -6,7 +6,7 @@ use Rattle.crossing.specs.Meaning.{to_come}
 use Rattle.listing.specs.Text.{line}
 use Rattle.listing.specs.Listing.{set_line, lines_within}
 use Rattle.listing.proofs.Written.{puts_none, puts_last, puts_stop, puts_on, puts_writes, writes_none, writes_then}
-use Rattle.listing.proofs.Lines.{lines-spent, lines-finished, lines-set}
+use Rattle.listing.proofs.Lines.{lines_spent, lines_finished, lines-set}
 use Rattle.listing.proofs.questions.put_sets.Goals as goal
 
 pub sets-init : goal.sets-init
@@ -20,7 +20,7 @@ returns-in-Spent c =
           let inv = l.invariant.3 keeps sized in
           let xs = c.args.entries.now in
           let t = to_come l.state in
-          let spent = lines-spent xs t l.left c.in-Ok.answer l.page c.advance.new.page (to_come c.advance.new.self) (c.in-Ok.ensures.is inv.0) c.in-Spent.is in
+          let spent = lines_spent xs t l.left c.in-Ok.answer l.page c.advance.new.page (to_come c.advance.new.self) (c.in-Ok.ensures.is inv.0) c.in-Spent.is in
           puts_last c.args.out.now l.out c.put_line.new.out c.args.at l.next inv.2.0 (lines_within l.left xs t) (line 80 []) _ c.put_line.result inv.2.1 c.put_line.ensures spent inv.2.2;
       writes =
           writes_then c.args.out.now l.out c.put_line.new.out c.args.at l.next c.put_line.result l.invariant.4
@@ -36,7 +36,7 @@ returns-in-Finished c =
           let inv = l.invariant.3 keeps sized in
           let xs = c.args.entries.now in
           let t = to_come l.state in
-          let over = lines-finished xs t l.left c.in-Ok.answer l.page c.advance.new.page (to_come c.advance.new.self) (c.in-Ok.ensures.is inv.0) c.in-Finished.is in
+          let over = lines_finished xs t l.left c.in-Ok.answer l.page c.advance.new.page (to_come c.advance.new.self) (c.in-Ok.ensures.is inv.0) c.in-Finished.is in
           puts_last c.args.out.now l.out r.new.out c.args.at l.next inv.2.0 (lines_within l.left xs t) (line 70 []) _ r.result inv.2.1 r.ensures over inv.2.2;
       writes = writes_then c.args.out.now l.out r.new.out c.args.at l.next r.result l.invariant.4 (puts_writes l.out r.new.out l.next (line 70 []) r.result r.ensures);
     }

@@ -2,13 +2,13 @@ use Rattle.std.proofs.Common.{◌≡◌, ℕ, ◌+◌, ◌-◌, ◌≤◌, lengt
 use Rattle.roll.specs.Totals.{rows_of}
 use Rattle.squeezing.specs.Table.{offset}
 use Rattle.question.specs.Filling.{Laid}
-use Rattle.squeezing.proofs.Columns.{offset-zero, offset-from, offset-next, offset-past, offset_fewer}
+use Rattle.squeezing.proofs.Columns.{offset-zero, offset_from, offset_next, offset_past, offset_fewer}
 use Rattle.question.proofs.Agreeing.{front_kept, back_kept}
 use Rattle.question.proofs.Laying.{laid_first, laid_holds}
 use Rattle.question.proofs.filling.fill.Goals as goal
 
 pub first_column-requires : goal.first_column-requires
-first_column-requires g c = omega (arith, offset-past (length c.args.entries.now) c.args.m c.requires.some, c.requires.room)
+first_column-requires g c = omega (arith, offset_past (length c.args.entries.now) c.args.m c.requires.some, c.requires.room)
 
 pub loop-k-init : goal.loop-k-init
 loop-k-init g c =
@@ -29,7 +29,7 @@ next_column-start-requires g c =
       some = c.loop-k.auto.k;
       most = omega (arith, c.requires.most);
       here = c.loop-k.invariant.0;
-      room = omega (arith, c.loop-k.invariant.0, offset-from n k c.loop-k.auto.k (omega (arith, c.requires.most)), offset-next n k, offset_fewer n (k + 1) c.args.m (omega arith), c.requires.room);
+      room = omega (arith, c.loop-k.invariant.0, offset_from n k c.loop-k.auto.k (omega (arith, c.requires.most)), offset_next n k, offset_fewer n (k + 1) c.args.m (omega arith), c.requires.room);
     }
 
 pub loop-k-preserved : goal.loop-k-preserved
@@ -44,7 +44,7 @@ loop-k-preserved g c =
     let done = c.next_column-start.ensures in
     let same : k + 1 - 1 ≡ k = omega arith in (
       done.next ∙ ap (offset n) (sym same),
-      front_kept n r now_is was (omega (arith, done.next, offset-past n k c.loop-k.auto.k)) done.front ∙ c.loop-k.invariant.1,
+      front_kept n r now_is was (omega (arith, done.next, offset_past n k c.loop-k.auto.k)) done.front ∙ c.loop-k.invariant.1,
       (λ few. done.laid few (subst (λ w. Laid m.algebra m.row m.span (rows_of m.row xs) n was w) (sym done.next) (c.loop-k.invariant.2 few))),
       back_kept (offset n (k + 1)) (offset n c.args.m) now_is was (offset_fewer n (k + 1) c.args.m (omega arith)) done.kept ∙ c.loop-k.invariant.3,
     )
@@ -53,7 +53,7 @@ loop-k-preserved g c =
 ended : (n m k start : ℕ) → 1 ≤ m → m ≤ n → 1 ≤ k → k ≤ m → m ≤ k → start ≡ offset n (k - 1) → start + (n - m + 1) ≡ offset n m
 ended n m k start some most from upto all at =
     let same : k ≡ m = omega arith in
-    omega (arith, at, ap (λ j. offset n (j - 1)) same, offset-from n m some most)
+    omega (arith, at, ap (λ j. offset n (j - 1)) same, offset_from n m some most)
 
 pub overflow_add-result-2 : goal.overflow_add-result-2
 overflow_add-result-2 g c =
@@ -68,7 +68,7 @@ returns g c =
     let n = length xs in
     let table = c.loop-k.table in
     let same : c.loop-k.k ≡ c.args.m = omega (arith, c.loop-k.auto.k-end c.requires.some) in
-    let past = offset-past n c.args.m c.requires.some in
+    let past = offset_past n c.args.m c.requires.some in
     let e = ended n c.args.m c.loop-k.k c.loop-k.start c.requires.some c.requires.most c.loop-k.auto.k (c.loop-k.auto.k-end c.requires.some) c.loop-k-test.false c.loop-k.invariant.0 in
     let behind : drop (offset n c.args.m) table ≡ drop (offset n c.args.m) c.args.table.now =
     c.loop-k.invariant.3 ∙ back_kept n (offset n c.args.m) c.first_column.new.table c.args.table.now past c.first_column.ensures.kept in

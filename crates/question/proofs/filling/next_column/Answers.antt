@@ -3,8 +3,8 @@ use Rattle.std.specs.List.{range_with_len}
 use Rattle.std.proofs.lemmas.List.{take-set-le, drop-set-lt}
 use Rattle.roll.specs.Totals.{rows_of}
 use Rattle.squeezing.specs.Table.{Stood, offset}
-use Rattle.squeezing.proofs.Columns.{offset-from, offset-next}
-use Rattle.question.proofs.Laying.{laid_at, laid_less, next-stands}
+use Rattle.squeezing.proofs.Columns.{offset_from, offset_next}
+use Rattle.question.proofs.Laying.{laid_at, laid_less, next_stands}
 use Rattle.question.proofs.filling.next_column.Goals as goal
 
 pub loop-q-preserved : goal.loop-q-preserved
@@ -20,8 +20,8 @@ loop-q-preserved g c =
     let w = start + (n - k + 1) + q in
     let r = c.plus.result in
     let x = c.index-table-start.result in
-    let col : offset n k ≡ start + (n - k + 1) = omega (arith, offset-from n k c.requires.some (omega arith), c.requires.here) in
-    let ends : offset n (k + 1) ≡ start + (n - k + 1) + (n - k) = omega (arith, col, offset-next n k) in
+    let col : offset n k ≡ start + (n - k + 1) = omega (arith, offset_from n k c.requires.some (omega arith), c.requires.here) in
+    let ends : offset n (k + 1) ≡ start + (n - k + 1) + (n - k) = omega (arith, col, offset_next n k) in
     let there : x ≡ get_or table (offset n (k - 1) + q) x = c.index-table-start.is ∙ ap (λ s. get_or table (s + q) x) c.requires.here in
     let many : k - 1 + 1 ≡ k = omega (arith, c.requires.some) in (
       take-set-le (start + (n - k + 1)) table w r (omega arith) ∙ c.loop-q.invariant.0,
@@ -31,7 +31,7 @@ loop-q-preserved g c =
           let sx : Stood m.algebra m.row m.span (rows_of m.row xs) (range_with_len (q + 1) k) x =
           subst (λ j. Stood m.algebra m.row m.span (rows_of m.row xs) (range_with_len (q + 1) j) x) many
           (subst (λ y. Stood m.algebra m.row m.span (rows_of m.row xs) (range_with_len (q + 1) (k - 1 + 1)) y) (sym there) was) in
-          let sum = next-stands m.algebra met.lawful m.row m.span met.owned xs few q k x r c.index-entries-q.result (omega arith) sx c.plus.ensures.exact c.plus.ensures.small in
+          let sum = next_stands m.algebra met.lawful m.row m.span met.owned xs few q k x r c.index-entries-q.result (omega arith) sx c.plus.ensures.exact c.plus.ensures.small in
           laid_at m.algebra m.row m.span (rows_of m.row xs) n table k q w (start + (n - k + 1) + (q + 1)) r (omega (arith, col)) (omega arith) (omega arith) (omega arith) now_laid sum),
       drop-set-lt (offset n (k + 1)) table w r (omega (arith, ends)) ∙ c.loop-q.invariant.2,
     )
@@ -43,10 +43,10 @@ returns g c =
     let n = length xs in
     let k = c.args.k in
     let start = c.args.start in
-    let col : offset n k ≡ start + (n - k + 1) = omega (arith, offset-from n k c.requires.some (omega arith), c.requires.here) in
+    let col : offset n k ≡ start + (n - k + 1) = omega (arith, offset_from n k c.requires.some (omega arith), c.requires.here) in
     record {
       next = sym col;
       front = c.loop-q.invariant.0;
-      laid = λ few laid. laid_less m.algebra m.row m.span (rows_of m.row xs) n c.loop-q.table (start + (n - k + 1) + c.loop-q.q) (offset n (k + 1)) (omega (arith, col, offset-next n k)) (c.loop-q.invariant.1 few laid);
+      laid = λ few laid. laid_less m.algebra m.row m.span (rows_of m.row xs) n c.loop-q.table (start + (n - k + 1) + c.loop-q.q) (offset n (k + 1)) (omega (arith, col, offset_next n k)) (c.loop-q.invariant.1 few laid);
       kept = c.loop-q.invariant.2;
     }

@@ -1,7 +1,7 @@
 use Rattle.std.proofs.Common.{◌+◌, ◌≤◌, ap, ◌∙◌, arith}
 use Rattle.std.proofs.lemmas.List.{take_all}
 use Rattle.roll.specs.Totals.{Few}
-use Rattle.roll.proofs.Sums.{sums, sums_next, few-at, all_places}
+use Rattle.roll.proofs.Sums.{sums, sums_next, few_at, all_places}
 use Rattle.roll.proofs.cells.sum.Goals as goal
 
 pub loop-one-preserved : goal.loop-one-preserved
@@ -12,7 +12,7 @@ loop-one-preserved g c =
     let i = c.loop-one.one-index in
     let x = c.one-item.result in
     let inv = c.loop-one.invariant in
-    let small : Few m.span xs → m.span c.loop-one.sum + m.span x.value ≤ i + 1 = λ few. omega (arith, inv.2 few, few-at m.span xs i x c.loop-one-test.true c.one-item.is few) in
+    let small : Few m.span xs → m.span c.loop-one.sum + m.span x.value ≤ i + 1 = λ few. omega (arith, inv.2 few, few_at m.span xs i x c.loop-one-test.true c.one-item.is few) in
     let fits : Few m.span xs → m.span c.loop-one.sum + m.span x.value ≤ 240 = λ few. omega (arith, small few, few.count) in (
       omega arith,
       λ few. c.plus-sum.ensures.exact (fits few) ∙ ap (λ r. m.algebra.plus r (m.row x.value)) (inv.1 few) ∙ sums_next met.lawful m.row met.owned xs i x c.loop-one-test.true c.one-item.is,

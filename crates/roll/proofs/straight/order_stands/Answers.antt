@@ -1,5 +1,5 @@
 use Rattle.roll.specs.Standing.{kind}
-use Rattle.roll.proofs.Orders.{ran_kept, adds, takes, kind-transitive, same-order}
+use Rattle.roll.proofs.Orders.{ran_kept, adds, takes, kind-transitive, same_order}
 use Rattle.roll.proofs.Premises.{ready}
 use Rattle.roll.proofs.straight.order_stands.Goals as goal
 
@@ -13,5 +13,5 @@ returns g c =
       ready = ready m.algebra m.row m.span met.owned;
       adds = adds k;
       takes = takes k;
-      settled = same-order m.algebra m.row m.span met.lawful met.owned;
+      settled = same_order m.algebra m.row m.span met.lawful met.owned;
     }

@@ -2,7 +2,7 @@ use Rattle.std.proofs.Common.{Some, None, Ok, sym, ap, ◌∙◌}
 use Rattle.std.proofs.lemmas.Bool.{true≢false}
 use Rattle.rollfile.specs.Files.{then, headed}
 use Rattle.records.specs.Records.{next_of, moved, plain, told}
-use Rattle.rollfile.proofs.Runs.{first-behind}
+use Rattle.rollfile.proofs.Runs.{first_behind}
 use Rattle.rollfile.proofs.reading.start.Goals as goal
 
 pub returns-in-Err : goal.returns-in-Err
@@ -24,7 +24,7 @@ returns-in-None c =
     let at = c.in-Ok.ensures.place ∙ ap (λ o. moved bs was.place (told (Ok o))) is ∙ ap (λ n. moved bs n (Ok None)) c.requires in
     record {
       answer = ap (λ r. then r headed) q;
-      behind = λ e. first-behind bs _ None (sym q) at c.in-Ok.ensures.file;
+      behind = λ e. first_behind bs _ None (sym q) at c.in-Ok.ensures.file;
       file = c.in-Ok.ensures.file;
     }
 
@@ -38,6 +38,6 @@ returns-in-Some c =
     let at = c.in-Ok.ensures.place ∙ ap (λ o. moved bs was.place (told (Ok o))) is ∙ ap (λ n. moved bs n (Ok (Some r))) c.requires in
     record {
       answer = c.columns_in.ensures ∙ ap (λ r. then r headed) q;
-      behind = λ e. first-behind bs _ (Some r) (sym q) at c.in-Ok.ensures.file;
+      behind = λ e. first_behind bs _ (Some r) (sym q) at c.in-Ok.ensures.file;
       file = c.in-Ok.ensures.file;
     }

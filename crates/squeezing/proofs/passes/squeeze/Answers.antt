@@ -4,7 +4,7 @@ use Rattle.sets.specs.Spaces.{space, widths, raise_from, lower_from}
 use Rattle.squeezing.specs.Table.{Holds, entries}
 use Rattle.squeezing.proofs.LoweringPass.{Lowered, Sunk, lower_from_none, lower_from_some, higher-set, lowered-set, fell-set, back_next, back_none, sunk_all}
 use Rattle.squeezing.proofs.RaisingPass.{Swept, raise_from_none, raise_from_some, lower-set, settled-set, rose-set, front_next, swept_all}
-use Rattle.squeezing.proofs.Squeezed.{places-higher, swept_places, passed, still-same, moved_less, moved_other, pass_no_rise, pass_no_fall, squeeze_none, squeeze-still, squeeze-more}
+use Rattle.squeezing.proofs.Squeezed.{places-higher, swept_places, passed, still_same, moved_less, moved_other, pass_no_rise, pass_no_fall, squeeze_none, squeeze_still, squeeze_more}
 use Rattle.squeezing.proofs.passes.squeeze.Given.{Over}
 use Rattle.squeezing.proofs.passes.squeeze.Goals as goal
 use Rattle.squeezing.proofs.passes.squeeze.Goals.{After-lower_totals, After-lowering}
@@ -123,8 +123,8 @@ returns-then-not-rose-fell g c =
     let p = passed m.algebra xs (m.row c.args.low) (m.row c.args.high) _ c.args.n c.passes.lo c.passes.hi c.raising.lo c.lowering.hi c.raising.rose c.lowering.fell (swept g at.After-lower_totals) (sunk g at.After-lowering) in
     let rose = c.raising.invariant.3 in
     let fell = c.lowering.invariant.3 in
-    let same = still-same c.raising.rose c.lowering.fell c.passes.lo c.raising.lo c.passes.hi c.lowering.hi c.if-not-rose-fell.true rose fell in (
-      (λ held. c.passes.invariant.4.2 held ∙ squeeze-still m.algebra xs (m.row c.args.low) (m.row c.args.high) c.passes.invariant.4.0 (space c.passes.lo c.passes.hi) (space c.raising.lo c.lowering.hi) (p.0 held) same),
+    let same = still_same c.raising.rose c.lowering.fell c.passes.lo c.raising.lo c.passes.hi c.lowering.hi c.if-not-rose-fell.true rose fell in (
+      (λ held. c.passes.invariant.4.2 held ∙ squeeze_still m.algebra xs (m.row c.args.low) (m.row c.args.high) c.passes.invariant.4.0 (space c.passes.lo c.passes.hi) (space c.raising.lo c.lowering.hi) (p.0 held) same),
       p.1,
       (λ j. omega (arith, c.passes.invariant.2 j, rose.up j)),
       (λ j. omega (arith, c.passes.invariant.3 j, fell.down j)),
@@ -152,5 +152,5 @@ passes-preserved g c =
       c.lowering.invariant.0 ∙ c.raising.invariant.0 ∙ c.passes.invariant.1,
       (λ j. omega (arith, c.passes.invariant.2 j, rose.up j)),
       (λ j. omega (arith, c.passes.invariant.3 j, fell.down j)),
-      squeeze-more m.algebra xs (m.row c.args.low) (m.row c.args.high) (Holds m.algebra m.row m.span c.args.n (length c.args.hi.now) c.args.table.now) c.passes.invariant.4.0 _ (space c.passes.lo c.passes.hi) (space c.raising.lo c.lowering.hi) c.passes.invariant.4.1 less c.passes.invariant.4.2 p.0 other,
+      squeeze_more m.algebra xs (m.row c.args.low) (m.row c.args.high) (Holds m.algebra m.row m.span c.args.n (length c.args.hi.now) c.args.table.now) c.passes.invariant.4.0 _ (space c.passes.lo c.passes.hi) (space c.raising.lo c.lowering.hi) c.passes.invariant.4.1 less c.passes.invariant.4.2 p.0 other,
     )

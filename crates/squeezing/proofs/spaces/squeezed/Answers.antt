@@ -3,7 +3,7 @@ use native.Mathlib.Nat.{sub-zero}
 use Rattle.sets.specs.Spaces.{space}
 use Rattle.squeezing.specs.Table.{Holds}
 use Rattle.std.proofs.lemmas.List.{take_at, length-take-le}
-use Rattle.squeezing.proofs.Framing.{framed_fair, fair_framed, frame_fits, kept-settled}
+use Rattle.squeezing.proofs.Framing.{framed_fair, fair_framed, frame_fits, kept_settled}
 use Rattle.squeezing.proofs.spaces.squeezed.Goals as goal
 
 pub column_start-requires : goal.column_start-requires
@@ -56,7 +56,7 @@ returns-then-squeeze g c =
       record {
         n = refl;
         m = refl;
-        settled = kept-settled f.m (f.m - 0) f.lo f.hi c.squeeze.new.lo c.squeeze.new.hi (drop (f.m - 0) f.lo) (drop (f.m - 0) f.hi) (sym z) many_lo many_hi told.1.ordered told.2 told.3;
+        settled = kept_settled f.m (f.m - 0) f.lo f.hi c.squeeze.new.lo c.squeeze.new.hi (drop (f.m - 0) f.lo) (drop (f.m - 0) f.hi) (sym z) many_lo many_hi told.1.ordered told.2 told.3;
       },
       λ suits.
           let there = told.0 (subst (λ q. Holds m.algebra m.row m.span f.n q c.args.table.now) (sym many) suits.holds) in

@@ -1,26 +1,26 @@
 use Rattle.std.proofs.Common.{◌≡◌, ◌+◌, ◌-◌, ◌≤◌, length, get_or, ap, ◌∙◌, arith, rules}
 use Rattle.std.proofs.lemmas.List.{length-drop, take_rest, get_or-drop}
 use Rattle.squeezing.specs.Table.{offset}
-use Rattle.squeezing.proofs.Columns.{offset-from}
+use Rattle.squeezing.proofs.Columns.{offset_from}
 use Rattle.squeezing.proofs.table.neighbours.Goals as goal
 
 pub offset_bounds-table-column_start : goal.offset_bounds-table-column_start
 offset_bounds-table-column_start g c =
-    omega (arith, offset-from c.args.n c.args.k (omega arith) (omega arith), c.requires.sized)
+    omega (arith, offset_from c.args.n c.args.k (omega arith) (omega arith), c.requires.sized)
 
 pub slice_bounds-total_at-count : goal.slice_bounds-total_at-count
 slice_bounds-total_at-count g c =
-    omega (arith, offset-from c.args.n c.args.k (omega arith) (omega arith), c.requires.sized)
+    omega (arith, offset_from c.args.n c.args.k (omega arith) (omega arith), c.requires.sized)
 
 pub slice_bounds-total_at-start : goal.slice_bounds-total_at-start
 slice_bounds-total_at-start g c =
     let h : c.column_start.result ≤ length c.args.table.now =
-    omega (arith, offset-from c.args.n c.args.k (omega arith) (omega arith), c.requires.sized) in
+    omega (arith, offset_from c.args.n c.args.k (omega arith) (omega arith), c.requires.sized) in
     search rules
 
 pub total_at-requires : goal.total_at-requires
 total_at-requires g c =
-    let w = offset-from c.args.n c.args.k (omega arith) (omega arith) in
+    let w = offset_from c.args.n c.args.k (omega arith) (omega arith) in
     simp (take_rest, length-drop) (omega (arith, w, c.requires.sized))
 
 pub returns : goal.returns

@@ -6,7 +6,7 @@ use Rattle.exploring.specs.declared.state.Told.TheVariants.{Finished}
 use Rattle.crossing.specs.Ranks.{ranks, rank_row}
 use Rattle.crossing.specs.Meaning.{Moderate, rank_items, later_than, to_come}
 use Rattle.crossing.proofs.Chains.{joined_none}
-use Rattle.crossing.proofs.Passing.{beyond_on, moderate-next, later_same, same_on, keeps_on, ran_ends, ran_passes, ran_still, ran_out}
+use Rattle.crossing.proofs.Passing.{beyond_on, moderate_next, later_same, same_on, keeps_on, ran_ends, ran_passes, ran_still, ran_out}
 use Rattle.crossing.proofs.state.Search.advance.Goals as goal
 
 pub returns-then-not-is_finished : goal.returns-then-not-is_finished
@@ -68,7 +68,7 @@ ranks-preserved c =
       omega (arith, inv.0, told.safe.0),
       same_on s0.straight s.straight u.straight inv.1 (same_on s.straight t u.straight told.same on.same),
       beyond_on (size_of s.straight) (size_of s0.straight) c.args.page.now c.ranks.page c.advance.new.page inv.1.size_same told.beyond inv.2,
-      λ k. keeps_on s.course u.course s.straight u.straight (same_on s.straight t u.straight told.same on.same) (subst Moderate (sym on.course) (moderate-next s.course (inv.3 k).moderate)) (inv.3 k),
+      λ k. keeps_on s.course u.course s.straight u.straight (same_on s.straight t u.straight told.same on.same) (subst Moderate (sym on.course) (moderate_next s.course (inv.3 k).moderate)) (inv.3 k),
       λ k. ran_still (coming ranks rank_row s.straight) (later_than s) left c.ranks.steps a c.ranks.page c.advance.new.page (coming ranks rank_row t) (told.is (inv.3 k).holds) over ∙ inv.4 k,
       λ k.
           ran_passes (coming ranks rank_row s.straight) (later_than s) left c.ranks.steps a c.ranks.page c.advance.new.page (coming ranks rank_row t) (told.is (inv.3 k).holds) _ (inv.5 k) over

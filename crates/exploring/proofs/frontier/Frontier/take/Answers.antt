@@ -3,7 +3,7 @@ use Rattle.sets.specs.Spaces.{space, child, at}
 use Rattle.sets.specs.Trace.{children}
 use Rattle.squeezing.specs.Frames.{space_of}
 use Rattle.exploring.specs.Waiting.{level_items}
-use Rattle.exploring.proofs.Stacking.{taken_items, children-next, at_front}
+use Rattle.exploring.proofs.Stacking.{taken_items, children_next, at_front}
 use Rattle.exploring.proofs.frontier.Frontier.take.Goals as goal
 
 pub returns : goal.returns
@@ -23,5 +23,5 @@ returns c =
           let born : child t (l.at + 1) l.next ≡ space_of r = sym c.child.ensures.is ∙ ap (λ k. space (take k r.lo) (take k r.hi)) (sym c.child.ensures.same.1) in
           let within : l.next ≤ at t.hi (l.at + 1) = omega (arith, ready.1 c.index-self-top.result, at_front l.frame.m l.frame.hi l.at l.within) in
           taken_items _ (level_items e) f.root.m d f.levels c.index-self-top.result _ f.fresh (e (f.root.m + 1 - d) (space_of r)) c.if-self.false ready.0 (omega arith)
-          (children-next e (f.root.m - (d - 1)) t (l.at + 1) l.next within ∙ ap (λ y. y ++ children (e (f.root.m - (d - 1))) t (l.at + 1) (l.next + 1)) (ap (λ k. e k (child t (l.at + 1) l.next)) fuel ∙ ap (e (f.root.m + 1 - d)) born));
+          (children_next e (f.root.m - (d - 1)) t (l.at + 1) l.next within ∙ ap (λ y. y ++ children (e (f.root.m - (d - 1))) t (l.at + 1) (l.next + 1)) (ap (λ k. e k (child t (l.at + 1) l.next)) fuel ∙ ap (e (f.root.m + 1 - d)) born));
     }

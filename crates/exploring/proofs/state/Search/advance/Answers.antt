@@ -4,7 +4,7 @@ use Rattle.exploring.specs.declared.state.Told.TheVariants.{Set, Spent, Finished
 use Rattle.exploring.specs.Meaning.{coming, Ran, Sound}
 use Rattle.squeezing.specs.Table.{Holds, entries, offset}
 use Rattle.exploring.specs.Waiting.{items_of, explore_of}
-use Rattle.exploring.proofs.Running.{run_none, run-set, run-spent, ready_more}
+use Rattle.exploring.proofs.Running.{run_none, run-set, run_spent, ready_more}
 use Rattle.exploring.proofs.Stepping.{root_same, ends_same}
 use Rattle.exploring.proofs.state.Search.advance.Given.{Over}
 use Rattle.exploring.proofs.state.Search.advance.Goals as goal
@@ -21,8 +21,8 @@ same_items g c =
     sym (c.waits.ensures.items (explore_of m.algebra m.row f.root.n s.table.now low high)) ∙ root_same m.algebra m.row s.table.now low high f c.waits.new.self c.waits.ensures.root
 
 -- the table still holds its totals
-still-sound : (g : Over) (c : After-waits g) → Sound g.M.Measure.algebra g.M.Measure.row g.M.Measure.span c.args.self.now → Holds g.M.Measure.algebra g.M.Measure.row g.M.Measure.span c.waits.new.self.root.n c.waits.new.self.root.m c.steps.self.table.now
-still-sound g c held =
+still_sound : (g : Over) (c : After-waits g) → Sound g.M.Measure.algebra g.M.Measure.row g.M.Measure.span c.args.self.now → Holds g.M.Measure.algebra g.M.Measure.row g.M.Measure.span c.waits.new.self.root.n c.waits.new.self.root.m c.steps.self.table.now
+still_sound g c held =
     let m = g.M.Measure in
     let root = c.args.self.now.work.frontier.root in
     subst (λ q. Holds m.algebra m.row m.span q.n q.m c.steps.self.table.now) (sym (c.waits.ensures.root ∙ c.steps.invariant.1)) (subst (λ t. Holds m.algebra m.row m.span root.n root.m t) (sym c.steps.invariant.2) held)
@@ -46,7 +46,7 @@ returns-then-steps-allowance g c =
           let left = c.args.allowance - c.steps.steps in
           let more = ready_more m.algebra (entries m.row f2.root.n s.table.now) low high f2 (c.waits.ensures.some c.steps-test.true) in
           let whole : run (coming m.algebra m.row c.args.self.now) c.args.allowance 0 ≡ record { end = spent; steps = c.steps.steps; rest = items } =
-          inv.4 held ∙ ap (λ l. run l left c.steps.steps) (same_items g (goal.at.returns-then-steps-allowance g c).After-waits) ∙ run-spent items left c.steps.steps more (omega (arith, c.if-steps-allowance.true)) in
+          inv.4 held ∙ ap (λ l. run l left c.steps.steps) (same_items g (goal.at.returns-then-steps-allowance g c).After-waits) ∙ run_spent items left c.steps.steps more (omega (arith, c.if-steps-allowance.true)) in
           subst (λ w. Ran w (record { told = Spent; steps = c.steps.steps }) c.args.page.now c.steps.page items) (sym whole) (record { told = refl; steps = refl; page_is = inv.3; rest = refl });
     }
 
@@ -68,7 +68,7 @@ returns-then-examine g c =
       counted = λ e. omega arith;
       is = λ held.
           let at = (goal.at.returns-then-examine g c).After-waits in
-          let told = c.if-examine.ensures.is (still-sound g at held) in
+          let told = c.if-examine.ensures.is (still_sound g at held) in
           let ps = told.0 in
           let rest = items_of m.algebra m.row table (m.row s.work.low) (m.row s.work.high) after.frontier in
           let left_over = items_of m.algebra m.row table (m.row after.low) (m.row after.high) after.frontier in
@@ -97,7 +97,7 @@ steps-preserved g c =
       c.examine.ensures.still c.if-examine.false ∙ inv.3,
       λ held.
           let at = (goal.at.steps-preserved g c).After-waits in
-          let told = c.if-examine.ensures.is (still-sound g at held) in
+          let told = c.if-examine.ensures.is (still_sound g at held) in
           let rest = items_of m.algebra m.row table (m.row s.work.low) (m.row s.work.high) after.frontier in
           let left = c.args.allowance - c.steps.steps in
           let later = c.args.allowance - (c.steps.steps + 1) in

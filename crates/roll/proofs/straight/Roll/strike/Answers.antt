@@ -3,9 +3,9 @@ use Rattle.std.proofs.lemmas.Bool.{true≢false}
 use Rattle.roll.specs.Order.{seat}
 use Rattle.roll.specs.Standing.{kind, standing}
 use Rattle.roll.specs.Kept.{Kept}
-use Rattle.roll.proofs.Orders.{without-kept}
+use Rattle.roll.proofs.Orders.{without_kept}
 use Rattle.roll.proofs.Firsts.{said_of}
-use Rattle.roll.proofs.Calls.{after_strike, room-kept, refuse_unknown, strikes, strikes_none}
+use Rattle.roll.proofs.Calls.{after_strike, room_kept, refuse_unknown, strikes, strikes_none}
 use Rattle.roll.proofs.straight.Roll.strike.Goals as goal
 
 pub returns-then-place-n : goal.returns-then-place-n
@@ -37,7 +37,7 @@ returns g c =
     let left = after_strike k cells c.args.self.now.count n held.front held.size c.find-place.result c.args.number c.close_gap.new.cells (drop (n - 0) cells) seated c.if-place-n.false held.within c.close_gap.auto.cells c.close_gap.ensures in
     record {
       book = record { answer = strikes k xs c.args.number _ _ seated held.size c.if-place-n.false; after = left };
-      cells = room-kept cells c.close_gap.new.cells (n - 0) (omega arith) c.close_gap.auto.cells;
+      cells = room_kept cells c.close_gap.new.cells (n - 0) (omega arith) c.close_gap.auto.cells;
       untouched = λ q. absurd (true≢false q);
-      kept = λ was. subst (Kept k) (sym left) (without-kept k c.args.number xs was);
+      kept = λ was. subst (Kept k) (sym left) (without_kept k c.args.number xs was);
     }
