@@ -1,4 +1,2 @@
-mod Firsts
-mod Moves
-pub mod Calls
 pub mod Kept
+pub mod Same

@@ -1,9 +1,8 @@
 -- What calls can lead to, and what holds of it.
 use Rattle.std.specs.Prelude.{◌≡◌, ℕ, ◌^◌, ◌<◌, ◌≤◌, true, List, [], ◌∷◌, length}
 use Rattle.std.specs.List.{AllByRecursion}
-use Rattle.crossed.specs.declared.entries.Entry.{Entry}
 use Rattle.crossed.specs.declared.entries.Columns.{Columns}
-use Rattle.crossed.specs.Entries.{in_range, past_zero}
+use Rattle.crossed.specs.Entries.{Entry, in_range, past_zero}
 use Rattle.crossed.specs.Books.{entered, struck}
 
 -- what opening, entering and striking can lead to, whatever room there is
@@ -19,7 +18,7 @@ Rising (x ∷ xs) = AllByRecursion (λ y. x.number < y.number) xs × Rising xs
 
 -- a roll of so many columns may hold the entry
 abbrev pub Admitted : Columns → Entry → Type 0
-Admitted d e = (e.number < 2 ^ 32) × (in_range d e.amounts ≡ true) × (past_zero d e.amounts ≡ true)
+Admitted d e = (e.number < 2 ^ 32) × (in_range d e.value ≡ true) × (past_zero d e.value ≡ true)
 
 -- rising, admitted and at most 120
 abbrev pub WellFormed : Columns → List Entry → Type 0

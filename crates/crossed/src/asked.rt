@@ -1,9 +1,9 @@
 use crate::entries::Amounts;
+use measure::Band;
 
-// Asks for sets of so many entries whose totals lie from low to high in each column.
+// Asks for sets of so many entries whose totals lie in the band in each column.
 #[derive(Clone, Copy)]
 pub struct Question {
     pub size: usize,
-    pub low: Amounts,
-    pub high: Amounts,
+    pub band: Band<Amounts>,
 }

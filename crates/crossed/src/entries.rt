@@ -1,12 +1,11 @@
 // Entries of a crossed roll, and what a roll of so many columns admits.
 ghost use Rattle.std.specs.Prelude.{◌≡◌};
-ghost use Rattle.crossed.specs.Entries.{within, is_zero, in_range, past_zero, columns_of};
-ghost use Rattle.crossed.specs.declared.entries.Columns.TheVariants.{Three};
+ghost use Rattle.crossed.specs.Entries.{within, in_range, past_zero, columns_of, count_of, row_of};
 
 use roll::refusal::Refusal;
 
 // One amount a column, in cents.
-#[derive(Clone, Copy)]
+#[derive(Clone, Copy, PartialEq, Eq, Debug)]
 pub struct Amounts {
     pub first: i64,
     pub second: i64,
@@ -14,32 +13,58 @@ pub struct Amounts {
     pub fourth: i64,
 }
 
+// No amount in any column.
+pub const NOTHING: Amounts = Amounts {
+    first: 0,
+    second: 0,
+    third: 0,
+    fourth: 0,
+};
+
 // An open entry: its number, and its amount in each column.
-#[derive(Clone, Copy)]
-pub struct Entry {
-    pub number: u32,
-    pub amounts: Amounts,
-}
+pub type Entry = roll::entry::Entry<Amounts>;
 
 // How many columns a roll has. The amounts past them are zero.
-#[derive(Clone, Copy)]
+#[derive(Clone, Copy, PartialEq, Eq, Debug)]
 pub enum Columns {
-    One,
-    Two,
-    Three,
-    Four,
+    One = 1,
+    Two = 2,
+    Three = 3,
+    Four = 4,
+}
+
+impl Columns {
+    // The number of columns.
+    pub fn count(self) -> u8
+        ensures { result ≡ count_of self }
+    {
+        self as u8
+    }
 }
 
 // The columns that a number means.
-pub fn columns_of(d: u8) -> Result<Columns, Refusal>
-    ensures { result ≡ columns_of d }
-{
-    match d {
-        1 => Ok(Columns::One),
-        2 => Ok(Columns::Two),
-        3 => Ok(Columns::Three),
-        4 => Ok(Columns::Four),
-        _ => Err(Refusal::BadColumns),
+impl TryFrom<u8> for Columns {
+    type Error = Refusal;
+
+    ghost try_from_gives = { λ d r. r ≡ columns_of d };
+
+    fn try_from(d: u8) -> Result<Columns, Refusal> {
+        match d {
+            1 => Ok(Columns::One),
+            2 => Ok(Columns::Two),
+            3 => Ok(Columns::Three),
+            4 => Ok(Columns::Four),
+            _ => Err(Refusal::BadColumns),
+        }
+    }
+}
+
+impl Amounts {
+    // The amounts in a row, that of the first column first.
+    pub fn row(self) -> [i64; 4]
+        ensures { result ≡ row_of self }
+    {
+        [self.first, self.second, self.third, self.fourth]
     }
 }
 
@@ -47,43 +72,23 @@ pub fn columns_of(d: u8) -> Result<Columns, Refusal>
 fn is_within(z: i64) -> bool
     ensures { result ≡ within z }
 {
-    !(100_000_000_000 < z) && !(z < -100_000_000_000)
-}
-
-// Whether the amount is zero.
-fn is_zero(z: i64) -> bool
-    ensures { result ≡ is_zero z }
-{
-    !(0 < z) && !(z < 0)
-}
-
-// Whether the first three amounts are in range.
-fn three_in_range(a: Amounts) -> bool
-    ensures { result ≡ in_range Three a }
-{
-    is_within(a.first) && is_within(a.second) && is_within(a.third)
+    -100_000_000_000 <= z && z <= 100_000_000_000
 }
 
 // Whether the amounts in the columns are in range.
 pub(crate) fn in_range(columns: Columns, a: Amounts) -> bool
     ensures { result ≡ in_range columns a }
 {
-    match columns {
-        Columns::One => is_within(a.first),
-        Columns::Two => is_within(a.first) && is_within(a.second),
-        Columns::Three => three_in_range(a),
-        Columns::Four => three_in_range(a) && is_within(a.fourth),
-    }
+    a.row()[..usize::from(columns.count())]
+        .iter()
+        .all(|z| is_within(*z))
 }
 
 // Whether the amounts past the columns are zero.
 pub fn past_zero(columns: Columns, a: Amounts) -> bool
     ensures { result ≡ past_zero columns a }
 {
-    match columns {
-        Columns::One => is_zero(a.second) && is_zero(a.third) && is_zero(a.fourth),
-        Columns::Two => is_zero(a.third) && is_zero(a.fourth),
-        Columns::Three => is_zero(a.fourth),
-        Columns::Four => true,
-    }
+    a.row()[usize::from(columns.count())..]
+        .iter()
+        .all(|z| *z == 0)
 }

@@ -2,5 +2,6 @@
 #![tactic(auto)]
 
 pub mod asked;
+pub mod entering;
 pub mod entries;
 pub mod rolls;

@@ -138,6 +138,13 @@ impl<A: Measure, B: Measure> Measure for Pair<A, B> {
     }
 }
 
+// A band of values: from a low end to a high one, both counted in.
+#[derive(Clone, Copy)]
+pub struct Band<M> {
+    pub low: M,
+    pub high: M,
+}
+
 // The span of an amount is the least that will do.
 pub fn spans_are_least() -> u8
     ensures { SpanLeast }

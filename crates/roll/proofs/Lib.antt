@@ -1,6 +1,8 @@
+pub mod Puts
 pub mod Firsts
 pub mod Moves
 pub mod Calls
-pub mod Sums
 pub mod Orders
+pub mod Sums
 pub mod Premises
+pub mod Same

@@ -1,16 +1,17 @@
 -- Entering and striking keep the order, and the order is settled by what stands.
-use Rattle.std.proofs.Common.{◌≡◌, ℕ, suc, ◌<◌, ◌≤◌, min, Bool, true, false, cond, not, ◌&&◌, ◌||◌, eqb, ltb, ◌⊎◌, List, [], ◌∷◌, map, length, is_ok, Ok, Err, Result, sym, refl, ap, ◌∙◌, subst, inl, inr, ⊎_elim, arith}
+use Rattle.std.proofs.Common.{◌≡◌, ℕ, ◌<◌, min, Bool, true, false, cond, not, ◌&&◌, ◌||◌, eqb, ltb, ◌⊎◌, List, [], ◌∷◌, map, length, is_ok, sym, refl, ap, ◌∙◌, subst, inl, inr, ⊎_elim, arith}
 use Rattle.std.specs.List.{AllByRecursion}
 use Rattle.std.proofs.ByRecursion.{All-weaker}
 use Rattle.std.proofs.lemmas.Bool.{ltb-true, lt-ltb, ltb-false, eqb-false, eqb-true, true≢false, false≢true, and_parts, or_parts}
 use Rattle.measure.specs.Algebra.{Algebra, Laws, Row, Own}
+use Rattle.roll.proofs.Puts.{all_put, all_without, put_long, without_long}
 use Rattle.roll.specs.Order.{Kind, before, matched, numbered, comparable, put, without}
-use Rattle.roll.specs.Standing.{kind, entered}
+use Rattle.roll.specs.Books.{kind, entered}
+use Rattle.roll.specs.Cells.{tested}
 use Rattle.sets.specs.Orders.{In}
-use Rattle.roll.specs.Kept.{Ordered, Once, Kept, Same, opened, did_enter, did_strike, line, AlwaysKept, SameOrder, Adds, Takes}
-use Rattle.roll.specs.declared.straight.Entry.{Entry}
-use Rattle.roll.specs.declared.refusal.Refusal.{Refusal}
-use Rattle.roll.specs.declared.refusal.Refusal.TheVariants.{Inadmissible, NumberTaken, RollFull, Incomparable}
+use Rattle.roll.specs.Books.{Ordered, Once, Kept, Same, opened, did_enter, did_strike, line, AlwaysKept, SameOrder, Adds, Takes}
+use Rattle.roll.specs.declared.entry.Entry.{Entry}
+use Rattle.roll.specs.declared.refusal.Refusal.TheVariants.{Incomparable}
 
 parts : (a b : Bool) (m n : ℕ) → (a && (not b || ltb m n)) ≡ true → (a ≡ true) × (b ≡ true → m < n)
 parts true true m n h = (refl, λ q. ltb-true m n h)
@@ -27,10 +28,6 @@ turned true true m n h c d = lt-ltb n m (let l = ltb-false m n h in omega arith)
 turned true false m n h c d = absurd (true≢false h)
 turned false true m n h c d = refl
 turned false false m n h c d = absurd (false≢true c)
-
--- the answer of `enter`, by its four tests
-abbrev says : Bool → Bool → Bool → Bool → Result (Unit {0}) Refusal
-says a n r c = cond a (cond n (Err NumberTaken) (cond r (cond c (Ok tt) (Err Incomparable)) (Err RollFull))) (Err Inadmissible)
 
 -- not-above goes from one to the next
 abbrev pub Transitive : {X : Type 0} → Kind X → Type 0
@@ -55,96 +52,64 @@ module _ {X : Type 0} (k : Kind X) where
       let b = q'.1 p'.0 in
       omega arith
 
-  all_put : (P : X → Type 0) (e : X) (xs : List X) → P e → AllByRecursion P xs → AllByRecursion P (put k e xs)
-  all_put P e [] p h = (p, tt)
-  all_put P e (x ∷ xs) p h = go (before k x e) (all_put P e xs p h.1)
-    where
-      go : (b : Bool) → AllByRecursion P (put k e xs) → AllByRecursion P (cond b (x ∷ put k e xs) (e ∷ x ∷ xs))
-      go true r = (h.0, r)
-      go false r = (p, h)
-
-  all_without : (P : X → Type 0) (n : ℕ) (xs : List X) → AllByRecursion P xs → AllByRecursion P (without k n xs)
-  all_without P n [] h = h
-  all_without P n (x ∷ xs) h = go (eqb (k.number x) n) (all_without P n xs h.1)
-    where
-      go : (b : Bool) → AllByRecursion P (without k n xs) → AllByRecursion P (cond b xs (x ∷ without k n xs))
-      go true r = h.1
-      go false r = (h.0, r)
-
-  put-ordered : Transitive k → (e : X) (xs : List X) → Ordered k xs → numbered k (k.number e) xs ≡ false → comparable k e xs ≡ true → Ordered k (put k e xs)
+  put-ordered : Transitive k → (e : X) (xs : List X) → Ordered k xs → numbered k.number (k.number e) xs ≡ false → comparable k e xs ≡ true → Ordered k (put (before k) e xs)
   put-ordered t e [] h n c = (tt, tt)
   put-ordered t e (x ∷ xs) h n c =
-      go (before k x e) refl (put-ordered t e xs h.1 (or_parts (eqb (k.number x) (k.number e)) (numbered k (k.number e) xs) n).1 (and_parts (matched k e x) (comparable k e xs) c).1)
+      go (before k x e) refl (put-ordered t e xs h.1 (or_parts (eqb (k.number x) (k.number e)) (numbered k.number (k.number e) xs) n).1 (and_parts (matched k e x) (comparable k e xs) c).1)
     where
-      go : (b : Bool) → before k x e ≡ b → Ordered k (put k e xs) → Ordered k (cond b (x ∷ put k e xs) (e ∷ x ∷ xs))
-      go true q r = (all_put (λ y. before k x y ≡ true) e xs q h.0, r)
+      go : (b : Bool) → before k x e ≡ b → Ordered k (put (before k) e xs) → Ordered k (cond b (x ∷ put (before k) e xs) (e ∷ x ∷ xs))
+      go true q r = (all_put (before k) (λ y. before k x y ≡ true) e xs q h.0, r)
       go false q r =
-          let f = turned (k.not_above x e) (k.not_above e x) (k.number x) (k.number e) q (and_parts (matched k e x) (comparable k e xs) c).0 (eqb-false (k.number x) (k.number e) (or_parts (eqb (k.number x) (k.number e)) (numbered k (k.number e) xs) n).0) in
+          let f = turned (k.not_above x e) (k.not_above e x) (k.number x) (k.number e) q (and_parts (matched k e x) (comparable k e xs) c).0 (eqb-false (k.number x) (k.number e) (or_parts (eqb (k.number x) (k.number e)) (numbered k.number (k.number e) xs) n).0) in
           ((f, All-weaker (λ y. before k x y ≡ true) (λ y. before k e y ≡ true) (λ y s. before_trans t e x y f s) xs h.0), h)
 
-  apart : (e : X) (xs : List X) → numbered k (k.number e) xs ≡ false → AllByRecursion (λ y. k.number e ≡ k.number y → ⊥) xs
+  apart : (e : X) (xs : List X) → numbered k.number (k.number e) xs ≡ false → AllByRecursion (λ y. k.number e ≡ k.number y → ⊥) xs
   apart e [] n = tt
   apart e (x ∷ xs) n =
-      let o = or_parts (eqb (k.number x) (k.number e)) (numbered k (k.number e) xs) n in
+      let o = or_parts (eqb (k.number x) (k.number e)) (numbered k.number (k.number e) xs) n in
       (λ q. eqb-false (k.number x) (k.number e) o.0 (sym q), apart e xs o.1)
 
-  put_once : (e : X) (xs : List X) → Once k xs → numbered k (k.number e) xs ≡ false → Once k (put k e xs)
+  put_once : (e : X) (xs : List X) → Once k xs → numbered k.number (k.number e) xs ≡ false → Once k (put (before k) e xs)
   put_once e [] h n = (tt, tt)
-  put_once e (x ∷ xs) h n = go (before k x e) (put_once e xs h.1 (or_parts (eqb (k.number x) (k.number e)) (numbered k (k.number e) xs) n).1)
+  put_once e (x ∷ xs) h n = go (before k x e) (put_once e xs h.1 (or_parts (eqb (k.number x) (k.number e)) (numbered k.number (k.number e) xs) n).1)
     where
-      go : (b : Bool) → Once k (put k e xs) → Once k (cond b (x ∷ put k e xs) (e ∷ x ∷ xs))
-      go true r = (all_put (λ y. k.number x ≡ k.number y → ⊥) e xs (eqb-false (k.number x) (k.number e) (or_parts (eqb (k.number x) (k.number e)) (numbered k (k.number e) xs) n).0) h.0, r)
+      go : (b : Bool) → Once k (put (before k) e xs) → Once k (cond b (x ∷ put (before k) e xs) (e ∷ x ∷ xs))
+      go true r = (all_put (before k) (λ y. k.number x ≡ k.number y → ⊥) e xs (eqb-false (k.number x) (k.number e) (or_parts (eqb (k.number x) (k.number e)) (numbered k.number (k.number e) xs) n).0) h.0, r)
       go false r = (apart e (x ∷ xs) n, h)
 
-  without-ordered : (n : ℕ) (xs : List X) → Ordered k xs → Ordered k (without k n xs)
+  without-ordered : (n : ℕ) (xs : List X) → Ordered k xs → Ordered k (without k.number n xs)
   without-ordered n [] h = h
   without-ordered n (x ∷ xs) h = go (eqb (k.number x) n) (without-ordered n xs h.1)
     where
-      go : (b : Bool) → Ordered k (without k n xs) → Ordered k (cond b xs (x ∷ without k n xs))
+      go : (b : Bool) → Ordered k (without k.number n xs) → Ordered k (cond b xs (x ∷ without k.number n xs))
       go true r = h.1
-      go false r = (all_without (λ y. before k x y ≡ true) n xs h.0, r)
+      go false r = (all_without k.number (λ y. before k x y ≡ true) n xs h.0, r)
 
-  without_once : (n : ℕ) (xs : List X) → Once k xs → Once k (without k n xs)
+  without_once : (n : ℕ) (xs : List X) → Once k xs → Once k (without k.number n xs)
   without_once n [] h = h
   without_once n (x ∷ xs) h = go (eqb (k.number x) n) (without_once n xs h.1)
     where
-      go : (b : Bool) → Once k (without k n xs) → Once k (cond b xs (x ∷ without k n xs))
+      go : (b : Bool) → Once k (without k.number n xs) → Once k (cond b xs (x ∷ without k.number n xs))
       go true r = h.1
-      go false r = (all_without (λ y. k.number x ≡ k.number y → ⊥) n xs h.0, r)
+      go false r = (all_without k.number (λ y. k.number x ≡ k.number y → ⊥) n xs h.0, r)
 
-  put_long : (e : X) (xs : List X) → length (put k e xs) ≡ suc (length xs)
-  put_long e [] = refl
-  put_long e (x ∷ xs) = go (before k x e) (put_long e xs)
-    where
-      go : (b : Bool) → length (put k e xs) ≡ suc (length xs) → length (cond b (x ∷ put k e xs) (e ∷ x ∷ xs)) ≡ suc (length (x ∷ xs))
-      go true r = ap suc r
-      go false r = refl
-
-  without_long : (n : ℕ) (xs : List X) → length (without k n xs) ≤ length xs
-  without_long n [] = omega arith
-  without_long n (x ∷ xs) = go (eqb (k.number x) n) (without_long n xs)
-    where
-      go : (b : Bool) → length (without k n xs) ≤ length xs → length (cond b xs (x ∷ without k n xs)) ≤ suc (length xs)
-      go true r = omega arith
-      go false r = omega arith
-
-  pub without_kept : (n : ℕ) (xs : List X) → Kept k xs → Kept k (without k n xs)
+  pub without_kept : (n : ℕ) (xs : List X) → Kept k xs → Kept k (without k.number n xs)
   without_kept n xs h = record {
     ordered = without-ordered n xs h.ordered;
     once = without_once n xs h.once;
-    admitted = all_without (λ x. k.admitted x ≡ true) n xs h.admitted;
-    few = omega (arith, without_long n xs, h.few);
+    admitted = all_without k.number (λ x. k.admitted x ≡ true) n xs h.admitted;
+    few = omega (arith, without_long k.number n xs, h.few);
   }
 
   pub entered_kept : Transitive k → (room : ℕ) (xs : List X) (e : X) → Kept k xs → Kept k (entered k room xs e)
-  entered_kept t room xs e h = go (k.admitted e) (numbered k (k.number e) xs) (ltb (length xs) (min 120 room)) (comparable k e xs) refl refl refl refl
+  entered_kept t room xs e h = go (k.admitted e) (numbered k.number (k.number e) xs) (ltb (length xs) (min 120 room)) (comparable k e xs) refl refl refl refl
     where
-      go : (a n r c : Bool) → k.admitted e ≡ a → numbered k (k.number e) xs ≡ n → ltb (length xs) (min 120 room) ≡ r → comparable k e xs ≡ c → Kept k (cond (is_ok (says a n r c)) (put k e xs) xs)
+      go : (a n r c : Bool) → k.admitted e ≡ a → numbered k.number (k.number e) xs ≡ n → ltb (length xs) (min 120 room) ≡ r → comparable k e xs ≡ c → Kept k (cond (is_ok (tested a n r c Incomparable)) (put (before k) e xs) xs)
       go true false true true i p l q = record {
         ordered = put-ordered t e xs h.ordered p q;
         once = put_once e xs h.once p;
-        admitted = all_put (λ x. k.admitted x ≡ true) e xs i h.admitted;
-        few = omega (arith, put_long e xs, ltb-true (length xs) (min 120 room) l);
+        admitted = all_put (before k) (λ x. k.admitted x ≡ true) e xs i h.admitted;
+        few = omega (arith, put_long (before k) e xs, ltb-true (length xs) (min 120 room) l);
       }
       go true true r c i p l q = h
       go true false false c i p l q = h
@@ -157,40 +122,40 @@ module _ {X : Type 0} (k : Kind X) where
   one_of P x (y ∷ ys) h (inr i) = one_of P x ys h.1 i
 
   -- what stands after e is put in: e, and what stood
-  in_put_to : (z e : X) (xs : List X) → In z (put k e xs) → (z ≡ e) ⊎ In z xs
+  in_put_to : (z e : X) (xs : List X) → In z (put (before k) e xs) → (z ≡ e) ⊎ In z xs
   in_put_to z e [] i = i
   in_put_to z e (x ∷ xs) i = go (before k x e) (in_put_to z e xs) i
     where
-      go : (b : Bool) → (In z (put k e xs) → (z ≡ e) ⊎ In z xs) → In z (cond b (x ∷ put k e xs) (e ∷ x ∷ xs)) → (z ≡ e) ⊎ In z (x ∷ xs)
+      go : (b : Bool) → (In z (put (before k) e xs) → (z ≡ e) ⊎ In z xs) → In z (cond b (x ∷ put (before k) e xs) (e ∷ x ∷ xs)) → (z ≡ e) ⊎ In z (x ∷ xs)
       go true r (inl q) = inr (inl q)
       go true r (inr j) = ⊎_elim inl (λ l. inr (inr l)) (r j)
       go false r j = j
 
-  in_put_from : (z e : X) (xs : List X) → (z ≡ e) ⊎ In z xs → In z (put k e xs)
+  in_put_from : (z e : X) (xs : List X) → (z ≡ e) ⊎ In z xs → In z (put (before k) e xs)
   in_put_from z e [] i = i
   in_put_from z e (x ∷ xs) i = go (before k x e) (in_put_from z e xs) i
     where
-      go : (b : Bool) → ((z ≡ e) ⊎ In z xs → In z (put k e xs)) → (z ≡ e) ⊎ In z (x ∷ xs) → In z (cond b (x ∷ put k e xs) (e ∷ x ∷ xs))
+      go : (b : Bool) → ((z ≡ e) ⊎ In z xs → In z (put (before k) e xs)) → (z ≡ e) ⊎ In z (x ∷ xs) → In z (cond b (x ∷ put (before k) e xs) (e ∷ x ∷ xs))
       go true r (inl q) = inr (r (inl q))
       go true r (inr (inl q)) = inl q
       go true r (inr (inr j)) = inr (r (inr j))
       go false r j = j
 
   -- what stands after n is struck: all that stood but what had the number n
-  in_without_to : (z : X) (n : ℕ) (xs : List X) → Once k xs → In z (without k n xs) → In z xs × (k.number z ≡ n → ⊥)
+  in_without_to : (z : X) (n : ℕ) (xs : List X) → Once k xs → In z (without k.number n xs) → In z xs × (k.number z ≡ n → ⊥)
   in_without_to z n [] d i = absurd i
   in_without_to z n (x ∷ xs) d i = go (eqb (k.number x) n) refl (in_without_to z n xs d.1) i
     where
-      go : (b : Bool) → eqb (k.number x) n ≡ b → (In z (without k n xs) → In z xs × (k.number z ≡ n → ⊥)) → In z (cond b xs (x ∷ without k n xs)) → In z (x ∷ xs) × (k.number z ≡ n → ⊥)
+      go : (b : Bool) → eqb (k.number x) n ≡ b → (In z (without k.number n xs) → In z xs × (k.number z ≡ n → ⊥)) → In z (cond b xs (x ∷ without k.number n xs)) → In z (x ∷ xs) × (k.number z ≡ n → ⊥)
       go true q r j = (inr j, λ m. one_of (λ y. k.number x ≡ k.number y → ⊥) z xs d.0 j (eqb-true (k.number x) n q ∙ sym m))
       go false q r (inl e) = (inl e, λ m. eqb-false (k.number x) n q (ap k.number (sym e) ∙ m))
       go false q r (inr j) = let t = r j in (inr t.0, t.1)
 
-  in_without_from : (z : X) (n : ℕ) (xs : List X) → In z xs → (k.number z ≡ n → ⊥) → In z (without k n xs)
+  in_without_from : (z : X) (n : ℕ) (xs : List X) → In z xs → (k.number z ≡ n → ⊥) → In z (without k.number n xs)
   in_without_from z n [] i m = i
   in_without_from z n (x ∷ xs) i m = go (eqb (k.number x) n) refl (λ j. in_without_from z n xs j m) i
     where
-      go : (b : Bool) → eqb (k.number x) n ≡ b → (In z xs → In z (without k n xs)) → In z (x ∷ xs) → In z (cond b xs (x ∷ without k n xs))
+      go : (b : Bool) → eqb (k.number x) n ≡ b → (In z xs → In z (without k.number n xs)) → In z (x ∷ xs) → In z (cond b xs (x ∷ without k.number n xs))
       go true q r (inl e) = absurd (m (ap k.number e ∙ eqb-true (k.number x) n q))
       go true q r (inr j) = j
       go false q r (inl e) = inl e
@@ -198,7 +163,7 @@ module _ {X : Type 0} (k : Kind X) where
 
   pub adds : Adds k
   adds room xs ys e z h =
-      let same : ys ≡ put k e xs = h.after ∙ ap (λ r. cond (is_ok r) (put k e xs) xs) (sym h.answer) in
+      let same : ys ≡ put (before k) e xs = h.after ∙ ap (λ r. cond (is_ok r) (put (before k) e xs) xs) (sym h.answer) in
       (λ i. in_put_to z e xs (subst (In z) same i), λ i. subst (In z) (sym same) (in_put_from z e xs i))
 
   pub takes : Takes k

@@ -5,10 +5,10 @@ use Rattle.std.proofs.ByRecursion.{All-weaker}
 use Rattle.std.proofs.lemmas.Bool.{leb-true, and_parts}
 use Rattle.measure.specs.Algebra.{Algebra, Row, Own}
 use Rattle.sets.specs.Sets.{Climbs}
-use Rattle.roll.specs.Kept.{Ordered, Kept}
-use Rattle.roll.specs.Standing.{kind}
+use Rattle.roll.specs.Books.{Ordered, Kept}
+use Rattle.roll.specs.Books.{kind}
 use Rattle.roll.specs.Totals.{rows_of, Few, Ready}
-use Rattle.roll.specs.declared.straight.Entry.{Entry}
+use Rattle.roll.specs.declared.entry.Entry.{Entry}
 
 module _ {M : Type 0} (a : Algebra) (row : M → Row) (span : M → ℕ) where
   pub kept_few : (xs : List (Entry M)) → Kept (kind a row span) xs → Few span xs

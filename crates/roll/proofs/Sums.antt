@@ -6,7 +6,7 @@ use Rattle.std.proofs.ByRecursion.{All-get_or}
 use Rattle.measure.specs.Algebra.{Algebra, Laws, Row, Own}
 use Rattle.sets.specs.Sets.{total}
 use Rattle.roll.specs.Totals.{rows_of, Few}
-use Rattle.roll.specs.declared.straight.Entry.{Entry}
+use Rattle.roll.specs.declared.entry.Entry.{Entry}
 
 -- the rows of entries, added from the last to the first
 abbrev pub sums : {M : Type 0} → Algebra → (M → Row) → List (Entry M) → Row

@@ -1,5 +1,7 @@
 pub mod Refusals
 pub mod Order
-pub mod Standing
-pub mod Kept
+pub mod Cells
+pub mod Books
+pub mod Props
+pub mod Rolls
 pub mod Totals

@@ -3,9 +3,8 @@ use Rattle.std.specs.Prelude.{◌≡◌, ℕ, ◌≤◌, List, map, length}
 use Rattle.std.specs.List.{range_with_len, AllByRecursion}
 use Rattle.measure.specs.Algebra.{Algebra, Row}
 use Rattle.sets.specs.Sets.{total, Rows}
-use Rattle.roll.specs.Kept.{Kept}
-use Rattle.roll.specs.Standing.{kind}
-use Rattle.roll.specs.declared.straight.Entry.{Entry}
+use Rattle.roll.specs.Books.{Kept, kind}
+use Rattle.roll.specs.declared.entry.Entry.{Entry}
 
 -- the rows of entries
 abbrev pub rows_of : {M : Type 0} → (M → Row) → List (Entry M) → List Row

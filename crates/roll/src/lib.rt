@@ -1,6 +1,10 @@
 // Rolls of open entries, and the numbered refusals of all calls.
 #![tactic(auto)]
 
-mod cells;
+pub mod book;
+pub mod entering;
+pub mod entry;
+pub mod keeping;
 pub mod refusal;
 pub mod straight;
+mod values;

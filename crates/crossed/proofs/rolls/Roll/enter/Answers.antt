@@ -1,51 +1,39 @@
-use Rattle.std.proofs.Common.{◌≡◌, ◌^◌, ◌<◌, min, cond, length, take, is_ok, sym, refl, ap, ◌∙◌, subst, arith, rules}
-use Rattle.std.proofs.lemmas.Bool.{true≢false}
-use Rattle.crossed.specs.Books.{enters, entered, if_ok, put}
+use Rattle.std.proofs.Common.{◌^◌, ◌<◌, min, ltb, length, is_ok, sym, refl, ap, ◌∙◌, subst, rules}
+use Rattle.std.proofs.Math.Logic.{∥∥₁_map}
+use Rattle.roll.specs.Order.{place}
+use Rattle.crossed.specs.Books.{before, numbered, enters}
+use Rattle.crossed.specs.Entries.{in_range, past_zero}
+use Rattle.roll.specs.declared.refusal.Refusal.TheVariants.{PastColumns}
 use Rattle.crossed.specs.Reachable.{Reachable, by_enter}
-use Rattle.crossed.specs.Rolls.{standing}
-use Rattle.crossed.proofs.Calls.{after_ok, after_err}
+use Rattle.crossed.specs.Rolls.{standing, room_of}
+use Rattle.roll.proofs.Calls.{put_ok, put_at}
+use Rattle.crossed.proofs.Same.{same_roll}
 use Rattle.crossed.proofs.rolls.Roll.enter.Goals as goal
 
-pub returns-in-Ok : goal.returns-in-Ok
-returns-in-Ok c =
+pub invariant_of-self : goal.invariant_of-self
+invariant_of-self c =
     let r = c.args.self.now in
-    let cells = r.cells.now in
     let e = c.args.one in
-    let xs = standing r in
-    let m = c.in-Ok.m in
-    let made = c.in-Ok.ensures.answer ∙ ap (λ l. if_ok (enters r.columns (length cells) l e) (put e l)) c.held-n.ensures.front in
-    let ok = after_ok (enters r.columns (length cells) xs e) (put e xs) (take m c.enter_in.new.cells) made in
+    let ok = c.in_ok-refusal.ensures in
+    let did = c.insert.ensures in
+    let said = put_ok (in_range r.columns e.value) (numbered e.number (standing r)) (ltb (length (standing r)) (min 120 (room_of r))) (past_zero r.columns e.value) PastColumns c.insert.result ok did.answer in
+    let placed = c.place_of-place.ensures ∙ ap (place before e) c.entries.ensures in
+    let left = did.after (ap is_ok said) ∙ put_at before e (standing r) c.place_of-place.result (enters r.columns (room_of r) (standing r) e) placed ok in
     let fit : e.number < 2 ^ 32 = search rules in
-    let few : min 120 m ≡ m = omega (arith, c.in-Ok.ensures.most c.held-n.ensures.most) in
-    let left : take (min 120 m) c.enter_in.new.cells ≡ entered r.columns (length cells) xs e = ap (λ i. take i c.enter_in.new.cells) few ∙ ok.1 ∙ ap (λ q. cond (is_ok q) (put e xs) xs) ok.0 in
-    record {
-      is = record {
-        answer = ok.0;
-        stands = left;
-        sound = λ was. subst (Reachable r.columns) (sym left) (by_enter (length cells) e fit was);
-        columns = refl;
-        room = c.enter_in.auto.cells;
-      };
-      untouched = λ q. absurd (true≢false q);
-    }
+    record { reached = ∥∥₁_map r.reached (λ was. subst (Reachable r.columns) (sym left) (by_enter (room_of r) e fit was)) }
 
-pub returns-in-Err : goal.returns-in-Err
-returns-in-Err c =
+pub returns : goal.returns
+returns c =
     let r = c.args.self.now in
-    let cells = r.cells.now in
     let e = c.args.one in
-    let xs = standing r in
-    let made = c.in-Err.ensures.answer ∙ ap (λ l. if_ok (enters r.columns (length cells) l e) (put e l)) c.held-n.ensures.front in
-    let no = after_err (enters r.columns (length cells) xs e) (put e xs) c.in-Err.refusal made in
-    let same = c.in-Err.ensures.untouched refl in
-    let stays : take (min 120 r.count) c.enter_in.new.cells ≡ xs = ap (take (min 120 r.count)) same in
+    let ok = c.in_ok-refusal.ensures in
+    let did = c.insert.ensures in
+    let said = put_ok (in_range r.columns e.value) (numbered e.number (standing r)) (ltb (length (standing r)) (min 120 (room_of r))) (past_zero r.columns e.value) PastColumns c.insert.result ok did.answer in
+    let placed = c.place_of-place.ensures ∙ ap (place before e) c.entries.ensures in
     record {
-      is = record {
-        answer = no;
-        stands = stays ∙ ap (λ q. cond (is_ok q) (put e xs) xs) no;
-        sound = λ was. subst (Reachable r.columns) (sym stays) was;
-        columns = refl;
-        room = ap length same;
-      };
-      untouched = λ q. same;
+      answer = said ∙ ok;
+      stands = did.after (ap is_ok said) ∙ put_at before e (standing r) c.place_of-place.result (enters r.columns (room_of r) (standing r) e) placed ok;
+      columns = refl;
+      room = did.room;
+      untouched = λ q. same_roll r c.insert.new.self _ (did.untouched q);
     }

@@ -1,50 +1,21 @@
-use Rattle.std.proofs.Common.{◌≡◌, min, cond, length, take, is_ok, sym, refl, ap, ◌∙◌, subst, arith}
-use Rattle.std.proofs.lemmas.Bool.{true≢false}
-use Rattle.crossed.specs.Books.{strikes, struck, if_ok, without}
+use Rattle.std.proofs.Common.{sym, refl, subst}
+use Rattle.std.proofs.Math.Logic.{∥∥₁_map}
 use Rattle.crossed.specs.Reachable.{Reachable, by_strike}
-use Rattle.crossed.specs.Rolls.{standing}
-use Rattle.crossed.proofs.Calls.{after_ok, after_err}
+use Rattle.crossed.proofs.Same.{same_roll}
 use Rattle.crossed.proofs.rolls.Roll.strike.Goals as goal
 
-pub returns-in-Ok : goal.returns-in-Ok
-returns-in-Ok c =
+pub invariant_of-self : goal.invariant_of-self
+invariant_of-self c =
     let r = c.args.self.now in
-    let cells = r.cells.now in
-    let e = c.args.number in
-    let xs = standing r in
-    let m = c.in-Ok.m in
-    let made = c.in-Ok.ensures.answer ∙ ap (λ l. if_ok (strikes l e) (without e l)) c.held-n.ensures.front in
-    let ok = after_ok (strikes xs e) (without e xs) (take m c.strike_in.new.cells) made in
-    let few : min 120 m ≡ m = omega (arith, c.in-Ok.ensures.most, c.held-n.ensures.most) in
-    let left : take (min 120 m) c.strike_in.new.cells ≡ struck xs e = ap (λ i. take i c.strike_in.new.cells) few ∙ ok.1 ∙ ap (λ q. cond (is_ok q) (without e xs) xs) ok.0 in
-    record {
-      is = record {
-        answer = ok.0;
-        stands = left;
-        sound = λ was. subst (Reachable r.columns) (sym left) (by_strike e was);
-        columns = refl;
-        room = c.strike_in.auto.cells;
-      };
-      untouched = λ q. absurd (true≢false q);
-    }
+    record { reached = ∥∥₁_map r.reached (λ was. subst (Reachable r.columns) (sym c.strike.ensures.after) (by_strike c.args.number was)) }
 
-pub returns-in-Err : goal.returns-in-Err
-returns-in-Err c =
-    let r = c.args.self.now in
-    let cells = r.cells.now in
-    let e = c.args.number in
-    let xs = standing r in
-    let made = c.in-Err.ensures.answer ∙ ap (λ l. if_ok (strikes l e) (without e l)) c.held-n.ensures.front in
-    let no = after_err (strikes xs e) (without e xs) c.in-Err.refusal made in
-    let same = c.in-Err.ensures.untouched refl in
-    let stays : take (min 120 r.count) c.strike_in.new.cells ≡ xs = ap (take (min 120 r.count)) same in
+pub returns : goal.returns
+returns c =
+    let did = c.strike.ensures in
     record {
-      is = record {
-        answer = no;
-        stands = stays ∙ ap (λ q. cond (is_ok q) (without e xs) xs) no;
-        sound = λ was. subst (Reachable r.columns) (sym stays) was;
-        columns = refl;
-        room = ap length same;
-      };
-      untouched = λ q. same;
+      answer = did.answer;
+      stands = did.after;
+      columns = refl;
+      room = did.room;
+      untouched = λ q. same_roll c.args.self.now c.strike.new.self _ (did.untouched q);
     }

@@ -1,5 +1,0 @@
-use Rattle.crossed.proofs.Kept.{always_well_formed}
-use Rattle.crossed.proofs.rolls.calls_keep_order.Goals as goal
-
-pub returns : goal.returns
-returns c = always_well_formed
