@@ -9,7 +9,7 @@ use crate::frontier::Frontier;
 use crate::level::Level;
 use crate::state::Search;
 use crate::work::Work;
-use measure::Measure;
+use measure::{Band, Measure};
 use squeezing::frame::Frame;
 use squeezing::table::fits;
 
@@ -63,8 +63,8 @@ fn plan_over(n: usize, m: usize, cells: usize) -> Frontier
 
 // The Search for sets of `m` of `n` entries whose totals lie between `low` and `high`, over a table of the totals of
 // neighbours whose first column holds the entries. Where the sizes do not fit the Search is finished, and of size 0.
-pub fn over<'t, M: Measure>(table: &'t [M], n: usize, m: usize, low: M, high: M) -> Search<'t, M>
-    ensures { Begun M.algebra M.Measure.row M.span n m table.now low high result }
+pub fn over<'t, M: Measure>(table: &'t [M], n: usize, m: usize, band: Band<M>) -> Search<'t, M>
+    ensures { Begun M.algebra M.Measure.row M.span n m table.now band.low band.high result }
 {
     let frontier = plan_over(n, m, table.len());
     let room = [M::nothing(); 121];
@@ -72,8 +72,8 @@ pub fn over<'t, M: Measure>(table: &'t [M], n: usize, m: usize, low: M, high: M)
         table,
         work: Work {
             frontier,
-            low,
-            high,
+            low: band.low,
+            high: band.high,
             room,
         },
     }
@@ -88,12 +88,12 @@ impl<'t, M: Measure> Search<'t, M> {
     }
 
     // The same Search begins again from its first space, between other ends.
-    pub fn restart(&mut self, low: M, high: M)
+    pub fn restart(&mut self, band: Band<M>)
         ensures same { Same self.old self.new }
-        ensures comes { coming M.algebra M.Measure.row self.new ≡ planned M.algebra M.Measure.row (count_of self.old) (size_of self.old) (table_of self.old) (M.Measure.row low) (M.Measure.row high) }
+        ensures comes { coming M.algebra M.Measure.row self.new ≡ planned M.algebra M.Measure.row (count_of self.old) (size_of self.old) (table_of self.old) (M.Measure.row band.low) (M.Measure.row band.high) }
     {
         self.work.frontier.restart();
-        self.work.low = low;
-        self.work.high = high;
+        self.work.low = band.low;
+        self.work.high = band.high;
     }
 }

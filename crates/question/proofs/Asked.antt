@@ -5,7 +5,7 @@ use Rattle.std.proofs.lemmas.List.{length-map}
 use Rattle.std.proofs.lemmas.Bool.{and_parts, ltb-true, leb-true}
 use Rattle.measure.specs.Algebra.{Algebra, Row}
 use Rattle.sets.specs.Sets.{total}
-use Rattle.roll.specs.declared.straight.Entry.{Entry}
+use Rattle.roll.specs.declared.entry.Entry.{Entry}
 use Rattle.roll.specs.declared.refusal.Refusal.{Refusal}
 use Rattle.roll.specs.Totals.{rows_of, Few, Totals}
 use Rattle.question.specs.declared.asking.Side.{Side}
@@ -16,7 +16,7 @@ use Rattle.question.specs.Asking.{Needed, sought, size_fits, band_fits, table_si
 -- where a test that fails refuses, an accepted answer tells that it held
 pub passed : (b : Bool) (x : Result (Unit {0}) Refusal) (e : Refusal) → cond b x (Err e) ≡ Ok tt → (b ≡ true) × (x ≡ Ok tt)
 passed true x e h = (refl, h)
-passed false x e h = let z : ◌≡◌ {A = ℕ} 0 1 = cc in absurd (omega arith)
+passed false x e h = cc
 
 sought_some : (side : Side) (n l : ℕ) → size_fits side n l ≡ true → 1 ≤ sought side n l
 sought_some Paid n l h = let p = and_parts (ltb 0 l) (leb l n) h in ltb-true 0 l p.0
@@ -30,21 +30,21 @@ sought_most Left n l h = omega arith
 pub record Accepted {M : Type 0} (span : M → ℕ) (n : ℕ) (q : Question M) (cells : ℕ) : Type 0 where
   pub some : 1 ≤ sought q.side n q.size
   pub most : sought q.side n q.size ≤ n
-  pub low : span q.low ≤ 1
-  pub high : span q.high ≤ 1
+  pub low : span q.band.low ≤ 1
+  pub high : span q.band.high ≤ 1
   pub room : table_size n (sought q.side n q.size) ≤ cells
 
 pub accepted : {M : Type 0} (a : Algebra) (row : M → Row) (span : M → ℕ) (n : ℕ) (q : Question M) (cells : ℕ) → asking a row span n q cells ≡ Ok tt → Accepted span n q cells
 accepted a row span n q cells h =
     let sized = passed (size_fits q.side n q.size) _ _ h in
-    let banded = passed (band_fits a row span q.low q.high) _ _ sized.1 in
+    let banded = passed (band_fits a row span q.band) _ _ sized.1 in
     let roomy = passed (leb (table_size n (sought q.side n q.size)) cells) _ _ banded.1 in
-    let ends = and_parts _ _ (and_parts (a.not_above (row q.low) (row q.high)) _ banded.0).1 in
+    let ends = and_parts _ _ (and_parts (a.not_above (row q.band.low) (row q.band.high)) _ banded.0).1 in
     record {
       some = sought_some q.side n q.size sized.0;
       most = sought_most q.side n q.size sized.0;
-      low = leb-true (span q.low) 1 ends.0;
-      high = leb-true (span q.high) 1 ends.1;
+      low = leb-true (span q.band.low) 1 ends.0;
+      high = leb-true (span q.band.high) 1 ends.1;
       room = leb-true _ cells roomy.0;
     }
 

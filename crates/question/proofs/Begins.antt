@@ -4,7 +4,7 @@ use Rattle.std.proofs.lemmas.Bool.{and_from, le-leb, lt-ltb, cond-true}
 use Rattle.measure.specs.Algebra.{Algebra, Row}
 use Rattle.sets.specs.Trace.{trace}
 use Rattle.roll.specs.Totals.{rows_of, Few}
-use Rattle.roll.specs.declared.straight.Entry.{Entry}
+use Rattle.roll.specs.declared.entry.Entry.{Entry}
 use Rattle.question.specs.Asking.{Needed, sought, asking, end}
 use Rattle.question.specs.Beginning.{Starts}
 use Rattle.question.specs.Filling.{Written}
@@ -23,8 +23,8 @@ fits_all n m cells a b c d =
 
 module _ {M : Type 0} (a : Algebra) (row : M → Row) (span : M → ℕ) (xs : List (Entry M)) (all : M) (q : Question M) (was is : List M) (s : Search M) (low high : M) where
   pub starts : asking a row span (length xs) q (length was) ≡ Ok tt → length is ≡ length was → Written a row span xs all q was is →
-      (Needed q.side (span all + span q.high ≤ 240) → row low ≡ end a q.side (row all) (row q.low) (row q.high)) →
-      (Needed q.side (span all + span q.low ≤ 240) → row high ≡ end a q.side (row all) (row q.high) (row q.low)) →
+      (Needed q.side (span all + span q.band.high ≤ 240) → row low ≡ end a q.side (row all) (row q.band.low) (row q.band.high)) →
+      (Needed q.side (span all + span q.band.low ≤ 240) → row high ≡ end a q.side (row all) (row q.band.high) (row q.band.low)) →
       Begun a row span (length xs) (sought q.side (length xs) q.size) is low high s →
       Starts a row span xs all q was s
   starts ok long w low_is high_is b =
@@ -44,6 +44,6 @@ module _ {M : Type 0} (a : Algebra) (row : M → Row) (span : M → ℕ) (xs : L
             ∙ cond-true (fits n m (length is)) (trace a (entries row n is) (row low) (row high) m) [] (fit few)
             ∙ ap (λ rs. trace a rs (row low) (row high) m) w.first
             ∙ ap₂ (λ l h. trace a (rows_of row xs) l h m)
-            (end_is a row span xs all q.side q.low q.high low few (needed q.side totals) known.high low_is)
-            (end_is a row span xs all q.side q.high q.low high few (needed q.side totals) known.low high_is);
+            (end_is a row span xs all q.side q.band.low q.band.high low few (needed q.side totals) known.high low_is)
+            (end_is a row span xs all q.side q.band.high q.band.low high few (needed q.side totals) known.low high_is);
       }

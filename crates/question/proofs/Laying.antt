@@ -7,7 +7,7 @@ use Rattle.std.proofs.lemmas.List.FromFn.{length-range_with_len}
 use Rattle.std.proofs.lemmas.Bool.{cases_lt, cases_eq}
 use Rattle.measure.specs.Algebra.{Algebra, Laws, Own, Row}
 use Rattle.sets.specs.Sets.{total, at_place}
-use Rattle.roll.specs.declared.straight.Entry.{Entry}
+use Rattle.roll.specs.declared.entry.Entry.{Entry}
 use Rattle.roll.specs.Totals.{Few, rows_of}
 use Rattle.squeezing.specs.Table.{Stood, Holds, entries, offset}
 use Rattle.question.specs.Filling.{Laid, values}

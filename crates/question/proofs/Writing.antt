@@ -2,7 +2,7 @@
 use Rattle.std.proofs.Common.{◌≡◌, ℕ, ◌+◌, ◌≤◌, List, length, get_or, take, drop, set, sym, ap, ◌∙◌, arith}
 use Rattle.std.proofs.lemmas.List.{get_or-set_same, get_or-set_other, length-set, take-set-le, drop-set-lt}
 use Rattle.measure.specs.Algebra.{Algebra, Row}
-use Rattle.roll.specs.declared.straight.Entry.{Entry}
+use Rattle.roll.specs.declared.entry.Entry.{Entry}
 use Rattle.roll.specs.Totals.{Few}
 use Rattle.question.specs.declared.asking.Question.{Question}
 use Rattle.question.specs.declared.asking.Side.TheVariants.{Paid}
@@ -38,18 +38,18 @@ module _ {M : Type 0} (a : Algebra) (row : M → Row) (span : M → ℕ) (xs : L
 
   -- for the paid side they are as asked
   pub as_asked : Accepted span (length xs) q (length was) → at ≡ ends_at (length xs) q → length filled ≡ length was →
-      (Needed q.side (span all + span q.high ≤ 240) → row low ≡ end a q.side (row all) (row q.low) (row q.high)) →
-      (Needed q.side (span all + span q.low ≤ 240) → row high ≡ end a q.side (row all) (row q.high) (row q.low)) →
+      (Needed q.side (span all + span q.band.high ≤ 240) → row low ≡ end a q.side (row all) (row q.band.low) (row q.band.high)) →
+      (Needed q.side (span all + span q.band.low ≤ 240) → row high ≡ end a q.side (row all) (row q.band.high) (row q.band.low)) →
       q.side ≡ Paid → EndsAsAsked row (length xs) q both
   as_asked ok at_is size low_is high_is paid = record {
-    low = λ d. ap row (low_at ok at_is size d) ∙ end_paid a q.side (span all + span q.high ≤ 240) (row all) (row q.low) (row q.high) (row low) paid low_is;
-    high = λ d. ap row (high_at ok at_is size d) ∙ end_paid a q.side (span all + span q.low ≤ 240) (row all) (row q.high) (row q.low) (row high) paid high_is;
+    low = λ d. ap row (low_at ok at_is size d) ∙ end_paid a q.side (span all + span q.band.high ≤ 240) (row all) (row q.band.low) (row q.band.high) (row low) paid low_is;
+    high = λ d. ap row (high_at ok at_is size d) ∙ end_paid a q.side (span all + span q.band.low ≤ 240) (row all) (row q.band.high) (row q.band.low) (row high) paid high_is;
   }
 
   pub written : Accepted span (length xs) q (length was) → at ≡ ends_at (length xs) q → length filled ≡ length was →
       take (length xs) filled ≡ values xs → (Few span xs → Holds a row span (length xs) (sought q.side (length xs) q.size) filled) → drop at filled ≡ drop at was →
-      (Needed q.side (span all + span q.high ≤ 240) → row low ≡ end a q.side (row all) (row q.low) (row q.high)) →
-      (Needed q.side (span all + span q.low ≤ 240) → row high ≡ end a q.side (row all) (row q.high) (row q.low)) →
+      (Needed q.side (span all + span q.band.high ≤ 240) → row low ≡ end a q.side (row all) (row q.band.low) (row q.band.high)) →
+      (Needed q.side (span all + span q.band.low ≤ 240) → row high ≡ end a q.side (row all) (row q.band.high) (row q.band.low)) →
       Written a row span xs all q was both
   written ok at_is size first held kept low_is high_is =
       let room = ends_fit span (length xs) q (length was) ok in
@@ -61,10 +61,10 @@ module _ {M : Type 0} (a : Algebra) (row : M → Row) (span : M → ℕ) (xs : L
         held = λ few. holds-set a row span (length xs) m (at + 1) high (set filled at low) (omega arith) (omega arith) (holds-set a row span (length xs) m at low filled past (omega arith) (held few));
         low = λ few totals d.
             ap row (low_at ok at_is size d)
-            ∙ end_is a row span xs all q.side q.low q.high low few (needed q.side totals) ok.high low_is;
+            ∙ end_is a row span xs all q.side q.band.low q.band.high low few (needed q.side totals) ok.high low_is;
         high = λ few totals d.
             ap row (high_at ok at_is size d)
-            ∙ end_is a row span xs all q.side q.high q.low high few (needed q.side totals) ok.low high_is;
+            ∙ end_is a row span xs all q.side q.band.high q.band.low high few (needed q.side totals) ok.low high_is;
         kept =
             ap (λ j. drop (j + 2) both) (sym at_is)
             ∙ drop-set-lt (at + 2) (set filled at low) (at + 1) high (omega arith) ∙ drop-set-lt (at + 2) filled at low (omega arith)

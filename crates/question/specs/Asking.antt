@@ -2,6 +2,7 @@
 use Rattle.std.specs.Prelude.{ℕ, ◌+◌, ◌-◌, ◌*◌, ◌/◌, Bool, cond, ◌&&◌, List, length, Ok, Err, Result, nat_le, nat_lt}
 use Rattle.std.specs.List.{range_with_len}
 use Rattle.measure.specs.Algebra.{Algebra, Row}
+use Rattle.measure.specs.declared.Band.{Band}
 use Rattle.sets.specs.Sets.{total}
 use Rattle.roll.specs.declared.refusal.Refusal.{Refusal}
 use Rattle.roll.specs.declared.refusal.Refusal.TheVariants.{BadSize, BadBand, ShortTable}
@@ -20,8 +21,8 @@ size_fits Paid n l = nat_lt 0 l && nat_le l n
 size_fits Left n l = nat_lt 0 l && nat_lt l n
 
 -- low is not above high, and both are admitted
-abbrev pub band_fits : {M : Type 0} → Algebra → (M → Row) → (M → ℕ) → M → M → Bool
-band_fits a row span low high = a.not_above (row low) (row high) && (nat_le (span low) 1 && nat_le (span high) 1)
+abbrev pub band_fits : {M : Type 0} → Algebra → (M → Row) → (M → ℕ) → Band M → Bool
+band_fits a row span b = a.not_above (row b.low) (row b.high) && (nat_le (span b.low) 1 && nat_le (span b.high) 1)
 
 -- how many values the table has for a Search of m of n entries: m columns and two ends
 abbrev pub table_size : ℕ → ℕ → ℕ
@@ -31,7 +32,7 @@ table_size n m = m * (2 * n - m + 1) / 2 + 2
 abbrev pub asking : {M : Type 0} → Algebra → (M → Row) → (M → ℕ) → ℕ → Question M → ℕ → Result (Unit {0}) Refusal
 asking a row span n q room =
     cond (size_fits q.side n q.size)
-    (cond (band_fits a row span q.low q.high)
+    (cond (band_fits a row span q.band)
     (cond (nat_le (table_size n (sought q.side n q.size)) room) (Ok tt) (Err ShortTable)) (Err BadBand))
     (Err BadSize)
 
@@ -56,8 +57,8 @@ total_of_all a rs = total a rs (range_with_len 1 (length rs))
 
 -- the low end of the sought band where the rows rs stand
 abbrev pub searched_low : {M : Type 0} → Algebra → (M → Row) → List Row → Question M → Row
-searched_low a row rs q = end a q.side (total_of_all a rs) (row q.low) (row q.high)
+searched_low a row rs q = end a q.side (total_of_all a rs) (row q.band.low) (row q.band.high)
 
 -- and the high end
 abbrev pub searched_high : {M : Type 0} → Algebra → (M → Row) → List Row → Question M → Row
-searched_high a row rs q = end a q.side (total_of_all a rs) (row q.high) (row q.low)
+searched_high a row rs q = end a q.side (total_of_all a rs) (row q.band.high) (row q.band.low)

@@ -5,7 +5,7 @@ use Rattle.measure.specs.Algebra.{Algebra, Row}
 use Rattle.sets.specs.Trace.{trace}
 use Rattle.roll.specs.Totals.{rows_of, Few, Totals}
 use Rattle.roll.specs.declared.refusal.Refusal.{Refusal}
-use Rattle.roll.specs.declared.straight.Entry.{Entry}
+use Rattle.roll.specs.declared.entry.Entry.{Entry}
 use Rattle.question.specs.Asking.{sought, asking, searched_low, searched_high}
 use Rattle.question.specs.Filling.{Written}
 use Rattle.exploring.specs.Meaning.{table_of, count_of, size_of, coming, Sound}
@@ -38,5 +38,5 @@ Begins a row span xs all q was s = BeginsBy a row span xs all q was s (asking a 
 -- the Search of a question to a roll on which xs stand; what the entries come to is worked out from them
 pub record Answers {M : Type 0} (a : Algebra) (row : M → Row) (span : M → ℕ) (xs : List (Entry M)) (q : Question M) (was : List M) (s : Search M) : Type 0 where
   pub all : M
-  pub totals : Few span xs → Totals a row span xs all
+  pub totals : Totals a row span xs all
   pub begins : Begins a row span xs all q was s

@@ -2,7 +2,7 @@
 use Rattle.std.specs.Prelude.{◌≡◌, ℕ, ◌+◌, ◌<◌, List, map, length, drop, slice_index_or}
 use Rattle.std.specs.List.{range_with_len}
 use Rattle.measure.specs.Algebra.{Algebra, Row}
-use Rattle.roll.specs.declared.straight.Entry.{Entry}
+use Rattle.roll.specs.declared.entry.Entry.{Entry}
 use Rattle.roll.specs.Totals.{rows_of, Few, Totals}
 use Rattle.question.specs.declared.asking.Question.{Question}
 use Rattle.question.specs.Asking.{sought, searched_low, searched_high}
@@ -31,5 +31,5 @@ pub record Written {M : Type 0} (a : Algebra) (row : M → Row) (span : M → �
 
 -- the two ends stand in the table as they were asked, where n entries stand
 pub record EndsAsAsked {M : Type 0} (row : M → Row) (n : ℕ) (q : Question M) (is : List M) : Type 0 where
-  pub low : (d : M) → row (slice_index_or is (ends_at n q) d) ≡ row q.low
-  pub high : (d : M) → row (slice_index_or is (ends_at n q + 1) d) ≡ row q.high
+  pub low : (d : M) → row (slice_index_or is (ends_at n q) d) ≡ row q.band.low
+  pub high : (d : M) → row (slice_index_or is (ends_at n q + 1) d) ≡ row q.band.high

@@ -6,7 +6,7 @@ use Rattle.sets.specs.Crossed.{crossed, crossed_solutions}
 use Rattle.sets.specs.Sets.{solutions}
 use Rattle.sets.specs.Spaces.{same}
 use Rattle.sets.specs.Trace.{Trace, trace, somes}
-use Rattle.roll.specs.Standing.{entering}
+use Rattle.roll.specs.Books.{entering}
 use Rattle.roll.specs.Order.{Kind}
 use Rattle.roll.specs.declared.refusal.Refusal.TheVariants.{Incomparable, ShortTable}
 use Rattle.question.specs.Asking.{sought, asking, searched_low, searched_high}
@@ -22,7 +22,7 @@ pub record Example : Type 0 where
   pub steps : Option ℕ
 
 abbrev asks : Side → ℕ → Row → Row → Question Row
-asks side l low high = record { side = side; size = l; low = low; high = high }
+asks side l low high = record { side = side; size = l; band = record { low = low; high = high } }
 
 -- a question to a straight roll whose rows stand in this order
 abbrev straight : Algebra → List Row → Question Row → List (List ℕ) → Option ℕ → Example

@@ -3,24 +3,23 @@ ghost use Rattle.std.specs.Prelude.{◌≡◌, ◌+◌, ◌≤◌, ◌&&◌, len
 ghost use Rattle.question.specs.Worked.{WorkedExamples};
 ghost use Rattle.question.specs.Asking.{Needed, sought, size_fits, band_fits, table_size, asking, end};
 
-use measure::Measure;
+use measure::{Band, Measure};
+use roll::entry::Entry;
 use roll::refusal::Refusal;
-use roll::straight::Entry;
 
 // Whether a question names the entries that are paid, or those that are left.
-#[derive(Clone, Copy)]
+#[derive(Clone, Copy, PartialEq, Eq, Debug)]
 pub enum Side {
     Paid,
     Left,
 }
 
-// Asks for sets of so many entries with a total from low to high.
+// Asks for sets of so many entries with a total in the band.
 #[derive(Clone, Copy)]
 pub struct Question<M> {
     pub side: Side,
     pub size: usize,
-    pub low: M,
-    pub high: M,
+    pub band: Band<M>,
 }
 
 // Whether so many of n entries can be asked for.
@@ -33,11 +32,11 @@ pub fn size_fits(side: Side, n: usize, size: usize) -> bool
     }
 }
 
-// Whether the ends make a band, and both are admitted.
-fn band_fits<M: Measure>(low: M, high: M) -> bool
-    ensures { result ≡ band_fits M.algebra M.Measure.row M.span low high }
+// Whether low is not above high, and both are admitted.
+fn band_fits<M: Measure>(band: Band<M>) -> bool
+    ensures { result ≡ band_fits M.algebra M.Measure.row M.span band }
 {
-    low.not_above(high) && low.admitted() && high.admitted()
+    band.low.not_above(band.high) && band.low.admitted() && band.high.admitted()
 }
 
 // How many places the sought sets have.
@@ -79,7 +78,7 @@ pub(crate) fn judge<M: Measure>(
     if !size_fits(asked.side, n, asked.size) {
         return Err(Refusal::BadSize);
     }
-    if !band_fits(asked.low, asked.high) {
+    if !band_fits(asked.band) {
         return Err(Refusal::BadBand);
     }
     if !table_fits(n, searched_size(asked.side, n, asked.size), room) {
@@ -88,20 +87,21 @@ pub(crate) fn judge<M: Measure>(
     Ok(())
 }
 
-// An end of the sought band, where all entries come to `all`: from the end of the asked band that it stands for, and the
-// other one.
-pub(crate) fn searched_end<M: Measure>(side: Side, all: M, this: M, other: M) -> M
-    ensures { Needed side (M.span all + M.span other ≤ 240) → M.Measure.row result ≡ end M.algebra side (M.Measure.row all) (M.Measure.row this) (M.Measure.row other) }
+// The sought band, where all entries come to `all`: as it was asked, or what its ends leave of all.
+pub(crate) fn searched_band<M: Measure>(side: Side, all: M, band: Band<M>) -> Band<M>
+    ensures low { Needed side (M.span all + M.span band.high ≤ 240) → M.Measure.row result.low ≡ end M.algebra side (M.Measure.row all) (M.Measure.row band.low) (M.Measure.row band.high) }
+    ensures high { Needed side (M.span all + M.span band.low ≤ 240) → M.Measure.row result.high ≡ end M.algebra side (M.Measure.row all) (M.Measure.row band.high) (M.Measure.row band.low) }
 {
     match side {
-        Side::Paid => this,
-        Side::Left => all.minus(other),
+        Side::Paid => band,
+        Side::Left => Band {
+            low: all.minus(band.high),
+            high: all.minus(band.low),
+        },
     }
 }
 
 // The examples worked by hand come out of the definitions as they should.
-pub fn worked_examples_hold() -> u8
+pub fn worked_examples_hold()
     ensures { WorkedExamples }
-{
-    0
-}
+{}

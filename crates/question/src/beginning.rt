@@ -1,19 +1,20 @@
-// The two calls of a question: the first tells the refusal, the second begins the Search and cannot refuse.
+// The two calls of a question: the first tells the refusal, the second begins the search and cannot refuse.
 ghost use Rattle.std.specs.Prelude.{◌≡◌, length, Ok};
-ghost use Rattle.roll.specs.Standing.{standing};
+ghost use Rattle.roll.specs.Rolls.{standing};
 ghost use Rattle.roll.specs.Totals.{Few};
 ghost use Rattle.exploring.specs.Meaning.{table_of, Sound};
 ghost use Rattle.question.specs.Asking.{asking};
 ghost use Rattle.question.specs.Filling.{EndsAsAsked};
 ghost use Rattle.question.specs.Beginning.{Starts, Stays, Begins, Answers};
 
-use crate::asking::{Question, Side, judge, searched_end, searched_size};
+use crate::asking::{Question, Side, judge, searched_band, searched_size};
 use crate::filling::write_table;
 use exploring::starting::over;
 use exploring::state::Search;
-use measure::Measure;
+use measure::{Band, Measure};
+use roll::entry::Entry;
 use roll::refusal::Refusal;
-use roll::straight::{Entry, Roll};
+use roll::straight::Roll;
 
 // Whether a question to the roll is accepted with this table, or its refusal.
 pub fn check<M: Measure>(roll: &Roll<M>, asked: Question<M>, table: &[M]) -> Result<(), Refusal>
@@ -22,7 +23,7 @@ pub fn check<M: Measure>(roll: &Roll<M>, asked: Question<M>, table: &[M]) -> Res
     judge(roll.entries(), asked, table.len())
 }
 
-// The Search of an accepted question: writes its table and begins.
+// The search of an accepted question: writes its table and begins.
 fn begin_accepted<'t, M: Measure>(
     entries: &[Entry<M>],
     all: M,
@@ -35,20 +36,23 @@ fn begin_accepted<'t, M: Measure>(
 {
     write_table(entries, all, asked, table);
     let m = searched_size(asked.side, entries.len(), asked.size);
-    let low = searched_end(asked.side, all, asked.low, asked.high);
-    let high = searched_end(asked.side, all, asked.high, asked.low);
-    over(table, entries.len(), m, low, high)
+    let band = searched_band(asked.side, all, asked.band);
+    over(table, entries.len(), m, band)
 }
 
-// A finished Search of size 0.
+// A finished search of size 0.
 fn begin_refused<'t, M: Measure>(table: &'t mut [M]) -> Search<'t, M>
     ensures stays { Stays M.algebra M.Measure.row table.old result }
     ensures sound { Sound M.algebra M.Measure.row M.span result }
 {
-    over(table, 0, 0, M::nothing(), M::nothing())
+    let nothing = Band {
+        low: M::nothing(),
+        high: M::nothing(),
+    };
+    over(table, 0, 0, nothing)
 }
 
-// The Search of a question to entries that come to `all`. After a refusal the table stays, and the Search is finished, of
+// The search of a question to entries that come to `all`. After a refusal the table stays, and the search is finished, of
 // size 0.
 pub fn begin_over<'t, M: Measure>(
     entries: &[Entry<M>],
@@ -66,14 +70,14 @@ pub fn begin_over<'t, M: Measure>(
     }
 }
 
-// The Search of a question to the roll. After a refusal the table stays, and the Search is finished, of size 0.
+// The search of a question to the roll. After a refusal the table stays, and the search is finished, of size 0.
 pub fn begin<'t, M: Measure>(
     roll: &Roll<M>,
     asked: Question<M>,
     table: &'t mut [M],
 ) -> Search<'t, M>
     ensures answers { Answers M.algebra M.Measure.row M.span (standing roll.now) asked table.old result }
-    ensures sound { Few M.span (standing roll.now) → Sound M.algebra M.Measure.row M.span result }
+    ensures sound { Sound M.algebra M.Measure.row M.span result }
 {
     begin_over(roll.entries(), roll.total(), asked, table)
 }

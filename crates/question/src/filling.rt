@@ -1,13 +1,13 @@
-// The table of a Search: the totals of neighbouring entries, column by column, then the two ends of the sought band.
+// The table of a search: the totals of neighbouring entries, column by column, then the two ends of the sought band.
 ghost use Rattle.std.specs.Prelude.{◌≡◌, ◌+◌, ◌-◌, ◌<◌, ◌≤◌, length, take, drop, Ok, slice_set};
 ghost use Rattle.roll.specs.Totals.{Few, rows_of};
 ghost use Rattle.squeezing.specs.Table.{Holds, offset};
 ghost use Rattle.question.specs.Asking.{asking};
 ghost use Rattle.question.specs.Filling.{values, Laid, Written, EndsAsAsked};
 
-use crate::asking::{Question, Side, searched_end, searched_size};
-use measure::Measure;
-use roll::straight::Entry;
+use crate::asking::{Question, Side, searched_band, searched_size};
+use measure::{Band, Measure};
+use roll::entry::Entry;
 
 // Writes the first column: the values of the entries.
 fn first_column<M: Measure>(entries: &[Entry<M>], table: &mut [M])
@@ -15,8 +15,8 @@ fn first_column<M: Measure>(entries: &[Entry<M>], table: &mut [M])
     ensures first { take (length entries.now) table.new ≡ values entries.now }
     ensures kept { drop (length entries.now) table.new ≡ drop (length entries.now) table.old }
 {
-    for p in 0..entries.len() {
-        table[p] = entries[p].value;
+    for (p, one) in entries.iter().enumerate() {
+        table[p] = one.value;
     }
 }
 
@@ -34,8 +34,8 @@ fn next_column<M: Measure>(entries: &[Entry<M>], k: usize, start: usize, table: 
 {
     let n = entries.len();
     let next = start + (n - k + 1);
-    for q in 0..n - k {
-        table[next + q] = table[start + q].plus(entries[q + k].value);
+    for (q, one) in entries[k..].iter().enumerate() {
+        table[next + q] = table[start + q].plus(one.value);
     }
     next
 }
@@ -59,12 +59,12 @@ fn fill<M: Measure>(entries: &[Entry<M>], m: usize, table: &mut [M]) -> usize
 }
 
 // Writes the two ends from a place on.
-fn put_ends<M: Copy>(table: &mut [M], at: usize, low: M, high: M)
+fn put_ends<M: Copy>(table: &mut [M], at: usize, band: Band<M>)
     requires { at + 2 ≤ length table.old }
-    ensures { table.new ≡ slice_set (slice_set table.old at low) (at + 1) high }
+    ensures { table.new ≡ slice_set (slice_set table.old at band.low) (at + 1) band.high }
 {
-    table[at] = low;
-    table[at + 1] = high;
+    table[at] = band.low;
+    table[at + 1] = band.high;
 }
 
 // Writes the table of an accepted question, where all entries come to `all`: the columns, then the two ends of the sought
@@ -81,7 +81,5 @@ pub(crate) fn write_table<M: Measure>(
 {
     let m = searched_size(asked.side, entries.len(), asked.size);
     let at = fill(entries, m, table);
-    let low = searched_end(asked.side, all, asked.low, asked.high);
-    let high = searched_end(asked.side, all, asked.high, asked.low);
-    put_ends(table, at, low, high);
+    put_ends(table, at, searched_band(asked.side, all, asked.band));
 }

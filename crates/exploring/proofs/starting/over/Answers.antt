@@ -13,8 +13,8 @@ returns g c =
     let m = g.M.Measure in
     let f = c.plan_over-frontier.result.root in
     let is = c.plan_over-frontier.ensures in
-    let low = m.row c.args.low in
-    let high = m.row c.args.high in
+    let low = m.row c.args.band.low in
+    let high = m.row c.args.band.high in
     let table = c.args.table.now in
     record {
       table_is = refl;

@@ -1,4 +1,4 @@
-use Rattle.std.proofs.Common.{◌≡◌, ◌<◌, [], ◌∷◌, ◌++◌, length, get_or, take, sym, ap, ◌∙◌, arith}
+use Rattle.std.proofs.Common.{◌≡◌, ◌<◌, [], ◌∷◌, ◌++◌, length, take, sym, ap, ◌∙◌, arith}
 use Rattle.std.proofs.lemmas.List.{take_more_set, map_more, take_all, drop-set-lt}
 use Rattle.question.specs.Filling.{values}
 use Rattle.question.proofs.filling.first_column.Goals as goal
@@ -10,7 +10,8 @@ loop-p-preserved g c =
     let p = c.loop-p.p in
     let e = c.index-entries-p.result in
     let more : p < length xs = c.loop-p-test.true in (
-      take_more_set table p (get_or xs p e).value (omega arith) ∙ ap (λ l. l ++ ((get_or xs p e).value ∷ [])) c.loop-p.invariant.0 ∙ sym (map_more (λ e. e.value) xs p e more),
+      take_more_set table p e.value (omega arith) ∙ ap (λ l. l ++ (e.value ∷ [])) c.loop-p.invariant.0
+          ∙ ap (λ x. values (take p xs) ++ (x.value ∷ [])) c.index-entries-p.is ∙ sym (map_more (λ x. x.value) xs p e more),
       drop-set-lt (length xs) table p _ more ∙ c.loop-p.invariant.1,
     )
 

@@ -42,12 +42,12 @@ returns g c =
     record {
       written =
           subst (λ t. Written m.algebra m.row m.span xs c.args.all q was t) put
-          (written m.algebra m.row m.span xs c.args.all q was filled c.fill-at.result c.searched_end-low.result c.searched_end-high.result
+          (written m.algebra m.row m.span xs c.args.all q was filled c.fill-at.result c.searched_band.result.low c.searched_band.result.high
           ok at_is c.fill-at.auto.table c.fill-at.ensures.first
           (λ few. subst (λ k. Holds m.algebra m.row m.span n k filled) m_is (c.fill-at.ensures.held few))
-          c.fill-at.ensures.kept c.searched_end-low.ensures c.searched_end-high.ensures);
+          c.fill-at.ensures.kept c.searched_band.ensures.low c.searched_band.ensures.high);
       paid = λ side.
           subst (EndsAsAsked m.row n q) put
-          (as_asked m.algebra m.row m.span xs c.args.all q was filled c.fill-at.result c.searched_end-low.result c.searched_end-high.result
-          ok at_is c.fill-at.auto.table c.searched_end-low.ensures c.searched_end-high.ensures side);
+          (as_asked m.algebra m.row m.span xs c.args.all q was filled c.fill-at.result c.searched_band.result.low c.searched_band.result.high
+          ok at_is c.fill-at.auto.table c.searched_band.ensures.low c.searched_band.ensures.high side);
     }
