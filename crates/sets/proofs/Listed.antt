@@ -1,5 +1,5 @@
 -- Which members kept and joined lists have, in which order, and how many.
-use Rattle.std.proofs.Common.{◌≡◌, ℕ, zero, suc, ◌+◌, ◌*◌, ◌<◌, ◌≤◌, Bool, true, false, cond, ◌⊎◌, List, [], ◌∷◌, ◌++◌, length, filter, refl, ap, ◌∙◌, subst, inl, inr, arith, length-append}
+use Rattle.std.proofs.Common.{◌≡◌, ℕ, zero, suc, ◌+◌, ◌<◌, ◌≤◌, Bool, true, false, cond, ◌⊎◌, List, [], ◌∷◌, ◌++◌, length, filter, refl, ap, ◌∙◌, subst, inl, inr, arith}
 use Rattle.std.specs.List.{flat_map, AllByRecursion}
 use Rattle.std.proofs.ByRecursion.{All-append, All-weaker, all_kept_by}
 use Rattle.std.proofs.lemmas.Bool.{both_ways, cases_eq}
@@ -38,6 +38,10 @@ module _ {X : Type 0} where
       step true t later (inr k) = inr (later k)
       step false t later (inl f) = absurd (both_ways (p y) t (subst (λ z. p z ≡ true) f e))
       step false t later (inr k) = later k
+
+  pub in_some : (x : X) (xs : List X) → In x xs → 1 ≤ length xs
+  in_some x [] i = absurd i
+  in_some x (y ∷ ys) i = omega arith
 
   pub in_joined : {Y : Type 0} (f : Y → List X) (x : X) (ys : List Y) → In x (flat_map f ys) → (y : Y) × (In y ys × In x (f y))
   in_joined f x [] h = absurd h
@@ -82,7 +86,3 @@ module _ {X : Type 0} where
         let rest : List X = flat_map f (count_from (suc a) n) in
         sorted_append R (f a) rest (sorted a) (sorted_joined (suc a) n)
         (All-weaker (λ x. key x ≡ a) (λ x. AllByRecursion (R x) rest) (λ x e. All-weaker (λ y. suc a ≤ key y) (R x) (λ y l. apart x y (omega arith)) rest (from_all (suc a) n)) (f a) (keyed a))
-
-pub length-flat_map_le : {X Y : Type 0} (f : X → List Y) (c : ℕ) → ((x : X) → length (f x) ≤ c) → (xs : List X) → length (flat_map f xs) ≤ length xs * c
-length-flat_map_le f c h [] = omega arith
-length-flat_map_le f c h (x ∷ xs) = omega (arith, h x, length-flat_map_le f c h xs, length-append (f x) (flat_map f xs))

@@ -37,12 +37,6 @@ Tight S n m s (Some t) = Tighter S n m s t
 pub space_same : (s t : Space) → s.lo ≡ t.lo → s.hi ≡ t.hi → s ≡ t
 space_same s t p q = λ i. record { lo = p i; hi = q i }
 
-pub none_some : {A : Type 0} (t : A) → ◌≡◌ {A = Option A} None (Some t) → ⊥
-none_some t e = let z : ◌≡◌ {A = ℕ} 0 1 = cc in omega arith
-
-some_same : {A : Type 0} (t u : A) → ◌≡◌ {A = Option A} (Some t) (Some u) → t ≡ u
-some_same t u e = cc
-
 module _ (S : List ℕ → Type 0) (n m : ℕ) where
   tighter_self : (s : Space) → Valid n m s → Tighter S n m s s
   tighter_self s v = record { valid = v; up = below_refl s.lo; down = below_refl s.hi; keeps = λ x r i z. i }
@@ -69,7 +63,7 @@ module _ (S : List ℕ → Type 0) (n m : ℕ) where
 
   -- where the second step comes back, neither moves
   then_fixed : (s : Space) (q : Option Space) (f : Space → Option Space) → Tight S n m s q → ((t : Space) → Valid n m t → Tight S n m t (f t)) → then q f ≡ Some s → (q ≡ Some s) × (f s ≡ Some s)
-  then_fixed s None f h k e = absurd (none_some s e)
+  then_fixed s None f h k e = cc
   then_fixed s (Some t) f h k e =
       let back : Tighter S n m t s = subst (Tight S n m t) e (k t h.valid) in
       let p : t ≡ s = both_tighter s t h back in
@@ -226,9 +220,9 @@ module _ (a : Algebra) (laws : Laws a) (xs : List Row) (rows : Rows a xs) (low h
   raise_fixed s i v l e = go (least (reaches s i) (at s.lo i) (choices s i)) (least_is (reaches s i) (at s.lo i) (choices s i)) e
     where
       go : (q : Option ℕ) → Least (reaches s i) (at s.lo i) (choices s i) q → ◌≡◌ {A = Option Space} (then q (λ w. Some (record { lo = lifted s.lo i w; hi = s.hi }))) (Some s) → reaches s i (at s.lo i) ≡ true
-      go None h f = absurd (none_some s f)
+      go None h f = cc
       go (Some w) h f =
-          let p : lifted s.lo i w ≡ s.lo = ap (λ (t : Space). t.lo) (some_same (record { lo = lifted s.lo i w; hi = s.hi }) s f) in
+          let p : lifted s.lo i w ≡ s.lo = cc in
           let q : w ≡ at s.lo i = sym (at_lifted s.lo i w (omega (arith, v.size))) ∙ ap (λ t. at t i) p in
           subst (λ u. reaches s i u ≡ true) q h.2
 
@@ -237,9 +231,9 @@ module _ (a : Algebra) (laws : Laws a) (xs : List Row) (rows : Rows a xs) (low h
   lower_fixed s i v l e = go (greatest (stays s i) (at s.lo i) (choices s i)) (greatest_is (stays s i) (at s.lo i) (choices s i)) e
     where
       go : (q : Option ℕ) → Greatest (stays s i) (at s.lo i) (choices s i) q → ◌≡◌ {A = Option Space} (then q (λ w. Some (record { lo = s.lo; hi = topped s.hi i w }))) (Some s) → stays s i (at s.hi i) ≡ true
-      go None h f = absurd (none_some s f)
+      go None h f = cc
       go (Some w) h f =
-          let p : topped s.hi i w ≡ s.hi = ap (λ (t : Space). t.hi) (some_same (record { lo = s.lo; hi = topped s.hi i w }) s f) in
+          let p : topped s.hi i w ≡ s.hi = cc in
           let q : w ≡ at s.hi i = sym (at_topped s.hi i w (omega (arith, v.size, below_length s.lo s.hi v.between))) ∙ ap (λ t. at t i) p in
           subst (λ u. stays s i u ≡ true) q h.2
 

@@ -2,7 +2,8 @@
 use Rattle.std.proofs.Common.{◌≡◌, ℕ, zero, suc, ◌+◌, ◌-◌, ◌*◌, ◌<◌, ◌≤◌, Bool, true, false, ◌&&◌, eqb, leb, List, [], ◌∷◌, ◌++◌, length, Some, None, filter, Option, sym, refl, ap, ◌∙◌, subst, arith}
 use Rattle.std.specs.List.{flat_map, AllByRecursion}
 use Rattle.std.proofs.ByRecursion.{All-weaker}
-use Rattle.std.proofs.lemmas.Bool.{both_ways, and_from, and_parts, le-leb, leb-true, eq-eqb, eqb-true}
+use Rattle.std.proofs.lemmas.List.Sums.{length-filter, count_by-le-length}
+use Rattle.std.proofs.lemmas.Bool.{false_from_ne_true, both_ways, and_from, and_parts, le-leb, leb-true, eq-eqb, eqb-true}
 use Rattle.measure.specs.Algebra.{Algebra, Row, Laws, Own}
 use Rattle.sets.specs.Sets.{Rows, sets, total, in_band, solutions}
 use Rattle.sets.specs.Spaces.{Space}
@@ -12,7 +13,8 @@ use Rattle.sets.proofs.Vectors.{Below, Rising, Upto, below_refl, below_trans, be
 use Rattle.sets.proofs.Members.{Among, sets_among, sets_all, In, Lex, lex_irreflexive, sets_sorted}
 use Rattle.sets.proofs.Squeeze.{Valid, Inside, Tighter, Tight, Solves, Fixed, squeeze_tight, squeeze_fixed, settled_solves}
 use Rattle.sets.proofs.Opens.{Settled, Opens, open_is, settled_open, settled_within, settled_more, lex_at}
-use Rattle.sets.proofs.Kept.{bool_same, is_false, kept_same, kept_none, kept_one, kept_has, kept_fewer, kept_most, joined_same, joined_twice, kept_split}
+use Rattle.sets.proofs.Kept.{bool_same, kept_same, kept_none, kept_one, kept_fewer, joined_same, joined_twice, kept_split}
+use Rattle.sets.proofs.Listed.{in_some, kept_in}
 
 -- the test of Below
 abbrev leqs : List ℕ → List ℕ → Bool
@@ -193,7 +195,7 @@ module _ (a : Algebra) (laws : Laws a) (xs : List Row) (rows : Rows a xs) (low h
 
   squeezed_none : (s : Space) → Valid (length xs) m s → Tight (Solves a xs low high) (length xs) m s None → filter (within good s) (sets 1 (length xs) m) ≡ []
   unfolding good
-  squeezed_none s v h = kept_none (within good s) (sets 1 (length xs) m) (All-weaker (Among 0 (length xs) m) (λ x. within good s x ≡ false) (λ x am. is_false (within good s x) (λ e. let p = within_parts good s x e in h x am.rising p.0 p.1)) (sets 1 (length xs) m) (members (length xs) m))
+  squeezed_none s v h = kept_none (within good s) (sets 1 (length xs) m) (All-weaker (Among 0 (length xs) m) (λ x. within good s x ≡ false) (λ x am. false_from_ne_true (within good s x) (λ e. let p = within_parts good s x e in h x am.rising p.0 p.1)) (sets 1 (length xs) m) (members (length xs) m))
 
   squeezed_some : (s t : Space) → Valid (length xs) m s → Tighter (Solves a xs low high) (length xs) m s t → filter (within good s) (sets 1 (length xs) m) ≡ filter (within good t) (sets 1 (length xs) m)
   unfolding good
@@ -238,7 +240,7 @@ module _ (a : Algebra) (laws : Laws a) (xs : List Row) (rows : Rows a xs) (low h
 
   holds-lo : (t : Space) → Valid (length xs) m t → 1 ≤ length (filter (within yes t) (sets 1 (length xs) m))
   unfolding yes
-  holds-lo t v = kept_has (within yes t) t.lo (sets 1 (length xs) m) (is_member (length xs) m t.lo (lo_among (length xs) m t v)) (within_from yes t t.lo (below_refl t.lo, v.between) refl)
+  holds-lo t v = in_some t.lo (filter (within yes t) (sets 1 (length xs) m)) (kept_in (within yes t) t.lo (sets 1 (length xs) m) (is_member (length xs) m t.lo (lo_among (length xs) m t v)) (within_from yes t t.lo (below_refl t.lo, v.between) refl))
 
   fewer : (s t : Space) → Tighter (Solves a xs low high) (length xs) m s t → length (filter (within yes t) (sets 1 (length xs) m)) ≤ length (filter (within yes s) (sets 1 (length xs) m))
   fewer s t h = kept_fewer (within yes t) (within yes s) (sets 1 (length xs) m) (All-weaker (Among 0 (length xs) m) (λ x. within yes t x ≡ true → within yes s x ≡ true)
@@ -294,4 +296,4 @@ module _ (a : Algebra) (laws : Laws a) (xs : List Row) (rows : Rows a xs) (low h
 
   -- and is shorter than twice the number of sets
   pub trace_counts : m ≤ length xs → length (trace a xs low high m) ≤ 2 * length (sets 1 (length xs) m) - 1
-  trace_counts l = omega (arith, explore_counts (suc m) start (start_valid l), kept_most (within yes start) (sets 1 (length xs) m))
+  trace_counts l = omega (arith, explore_counts (suc m) start (start_valid l), length-filter (within yes start) (sets 1 (length xs) m), count_by-le-length (within yes start) (sets 1 (length xs) m))

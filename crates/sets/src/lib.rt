@@ -9,8 +9,7 @@ pub fn traces_are_exact()
     ensures finds { TraceFinds }
     ensures counts { TraceCounts }
     ensures complements { Complements }
-{
-}
+{}
 
 // What holds of every crossed search, of its definitions: its sets are exactly those whose totals lie in the band in each column, each
 // once and in order, and its steps are bounded.
@@ -21,5 +20,4 @@ pub fn crossings_are_exact()
     ensures order { CrossedOrder }
     ensures once { CrossedOnce }
     ensures counts { CrossedCounts }
-{
-}
+{}
