@@ -1,11 +1,10 @@
 -- Where a set's total lies in a band, its complement's lies in the band turned about the total of all entries: so the
 -- complements of the solutions are the solutions of the turned question, back to front.
-use Rattle.std.proofs.Common.{◌≡◌, ℕ, zero, suc, ◌+◌, ◌-◌, ◌≤◌, Bool, true, false, cond, eqb, List, [], ◌∷◌, ◌++◌, map, reverse, length, filter, sym, refl, ap, ◌∙◌, subst, subst₂, inl, inr, arith}
+use Rattle.std.proofs.Common.{◌≡◌, ℕ, zero, suc, ◌+◌, ◌-◌, ◌≤◌, Bool, eqb, List, [], ◌∷◌, map, reverse, length, filter, sym, refl, ap, ◌∙◌, subst, subst₂, inl, inr, arith}
 use mathlib.Core.List.{reverse-cons}
 use Rattle.std.specs.List.{range_with_len, AllByRecursion}
-use Rattle.std.proofs.lemmas.List.Elements.{filter-append}
 use Rattle.std.proofs.ByRecursion.{All-weaker}
-use Rattle.std.proofs.lemmas.List.{append-nil}
+use Rattle.std.proofs.lemmas.Grind.{common_steps}
 use Rattle.std.proofs.lemmas.Bool.{cases_eq, cond_both, and_from, and_parts}
 use Rattle.measure.specs.Algebra.{Algebra, Row, Laws, Own, NotAbove}
 use Rattle.sets.specs.Sets.{Rows, sets, complement, total, at_place, in_band, solutions}
@@ -36,19 +35,11 @@ complement-upto k b (suc n) (q ∷ s) l =
 
 map_kept : {X Y : Type 0} (f : X → Y) (p : X → Bool) (q : Y → Bool) (xs : List X) → AllByRecursion (λ x. q (f x) ≡ p x) xs → map f (filter p xs) ≡ filter q (map f xs)
 map_kept f p q [] h = refl
-map_kept f p q (x ∷ xs) h = step (p x) (q (f x)) h.0 (map_kept f p q xs h.1)
-  where
-    step : (b c : Bool) → c ≡ b → map f (filter p xs) ≡ filter q (map f xs) → map f (cond b (x ∷ filter p xs) (filter p xs)) ≡ cond c (f x ∷ filter q (map f xs)) (filter q (map f xs))
-    step true c e ih = ap (λ ys. f x ∷ ys) ih ∙ ap (λ d. cond d (f x ∷ filter q (map f xs)) (filter q (map f xs))) (sym e)
-    step false c e ih = ih ∙ ap (λ d. cond d (f x ∷ filter q (map f xs)) (filter q (map f xs))) (sym e)
+map_kept f p q (x ∷ xs) h = grind (arith, map_kept f p q xs h.1, h.0)
 
 kept_reverse : {X : Type 0} (p : X → Bool) (xs : List X) → filter p (reverse xs) ≡ reverse (filter p xs)
 kept_reverse p [] = refl
-kept_reverse p (x ∷ xs) = ap (filter p) (reverse-cons x xs) ∙ filter-append p (reverse xs) (x ∷ []) ∙ ap (λ ys. ys ++ filter p (x ∷ [])) (kept_reverse p xs) ∙ step (p x)
-  where
-    step : (b : Bool) → reverse (filter p xs) ++ cond b (x ∷ []) [] ≡ reverse (cond b (x ∷ filter p xs) (filter p xs))
-    step true = sym (reverse-cons x (filter p xs))
-    step false = append-nil (reverse (filter p xs))
+kept_reverse p (x ∷ xs) = grind (arith, common_steps, kept_reverse p xs, reverse-cons x xs, reverse-cons x (filter p xs))
 
 -- x less y
 abbrev pub minus : Algebra → Row → Row → Row

@@ -1,8 +1,9 @@
 -- What `least`, `greatest`, `count_from`, `count_down`, `same` and `widths` answer.
-use Rattle.std.proofs.Common.{◌≡◌, ℕ, zero, suc, ◌+◌, ◌<◌, ◌≤◌, Bool, true, false, cond, eqb, List, [], ◌∷◌, Some, None, Option, refl, ap, ◌∙◌, subst, ap₂, inl, inr, add-one, arith}
+use Rattle.std.proofs.Common.{◌≡◌, ℕ, zero, suc, ◌+◌, ◌<◌, ◌≤◌, Bool, true, false, cond, eqb, List, [], ◌∷◌, Some, None, Option, refl, ap, ◌∙◌, add-one, arith}
 use Rattle.std.specs.List.{range_with_len, AllByRecursion}
 use Rattle.std.proofs.ByRecursion.{All-weaker}
-use Rattle.std.proofs.lemmas.Bool.{cases_eq, both_ways, eq-eqb, eqb-true, and_parts, and_from}
+use Rattle.std.proofs.lemmas.Bool.Decides.{nat_tests}
+use Rattle.std.proofs.lemmas.Bool.{eq-eqb, and_from}
 use Rattle.sets.proofs.Forms.{least, greatest, count_from, count_down, widths}
 use Rattle.sets.specs.Spaces.{same}
 use Rattle.sets.proofs.Vectors.{Below}
@@ -13,19 +14,8 @@ Least f v n None = (u : ℕ) → v ≤ u → u < v + n → f u ≡ true → ⊥
 Least f v n (Some w) = (v ≤ w) × (w < v + n) × (f w ≡ true) × ((u : ℕ) → v ≤ u → u < v + n → f u ≡ true → w ≤ u)
 
 least_skip : (f : ℕ → Bool) (v n : ℕ) (q : Option ℕ) → f v ≡ false → Least f (suc v) n q → Least f v (suc n) q
-least_skip f v n None e h = λ u l k t. elim (cases_eq u v) [
-  | inl p ↦ both_ways (f v) e (subst (λ x. f x ≡ true) p t)
-  | inr p ↦ h u (omega arith) (omega arith) t
-]
-least_skip f v n (Some w) e h = (
-  omega arith,
-  omega arith,
-  h.2,
-  λ u l k t. elim (cases_eq u v) [
-    | inl p ↦ absurd (both_ways (f v) e (subst (λ x. f x ≡ true) p t))
-    | inr p ↦ h.3 u (omega arith) (omega arith) t
-  ],
-)
+least_skip f v n None e h = λ u l k t. grind (arith, h u)
+least_skip f v n (Some w) e h = (omega arith, omega arith, h.2, λ u l k t. grind (arith, h.3 u))
 
 least_step : (f : ℕ → Bool) (v n : ℕ) (q : Option ℕ) (b : Bool) → f v ≡ b → Least f (suc v) n q → Least f v (suc n) (cond b (Some v) q)
 least_step f v n q true e h = (omega arith, omega arith, e, λ u l k t. l)
@@ -41,19 +31,8 @@ Greatest f v n None = (u : ℕ) → v ≤ u → u < v + n → f u ≡ true → �
 Greatest f v n (Some w) = (v ≤ w) × (w < v + n) × (f w ≡ true) × ((u : ℕ) → v ≤ u → u < v + n → f u ≡ true → u ≤ w)
 
 greatest_skip : (f : ℕ → Bool) (v n : ℕ) (q : Option ℕ) → f (v + n) ≡ false → Greatest f v n q → Greatest f v (suc n) q
-greatest_skip f v n None e h = λ u l k t. elim (cases_eq u (v + n)) [
-  | inl p ↦ both_ways (f (v + n)) e (subst (λ x. f x ≡ true) p t)
-  | inr p ↦ h u l (omega arith) t
-]
-greatest_skip f v n (Some w) e h = (
-  h.0,
-  omega arith,
-  h.2,
-  λ u l k t. elim (cases_eq u (v + n)) [
-    | inl p ↦ absurd (both_ways (f (v + n)) e (subst (λ x. f x ≡ true) p t))
-    | inr p ↦ h.3 u l (omega arith) t
-  ],
-)
+greatest_skip f v n None e h = λ u l k t. grind (arith, h u)
+greatest_skip f v n (Some w) e h = (h.0, omega arith, h.2, λ u l k t. grind (arith, h.3 u))
 
 greatest_step : (f : ℕ → Bool) (v n : ℕ) (q : Option ℕ) (b : Bool) → f (v + n) ≡ b → Greatest f v n q → Greatest f v (suc n) (cond b (Some (v + n)) q)
 greatest_step f v n q true e h = (omega arith, omega arith, e, λ u l k t. omega arith)
@@ -77,9 +56,9 @@ count_down_below (suc n) = (omega arith, All-weaker (λ j. j < n) (λ j. j < suc
 
 pub same_true : (s t : List ℕ) → same s t ≡ true → s ≡ t
 same_true [] [] e = refl
-same_true [] (y ∷ t) e = absurd (both_ways false refl e)
-same_true (x ∷ s) [] e = absurd (both_ways false refl e)
-same_true (x ∷ s) (y ∷ t) e = let p = and_parts (eqb x y) (same s t) e in ap₂ (λ z zs. z ∷ zs) (eqb-true x y p.0) (same_true s t p.1)
+same_true [] (y ∷ t) e = cc
+same_true (x ∷ s) [] e = cc
+same_true (x ∷ s) (y ∷ t) e = grind (arith, nat_tests, same_true s t)
 
 pub same_self : (s : List ℕ) → same s s ≡ true
 same_self [] = refl

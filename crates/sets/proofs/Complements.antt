@@ -14,7 +14,7 @@ map_same f g P h (x ∷ xs) a = ap₂ (λ y ys. y ∷ ys) (h x a.0) (map_same f 
 
 pub map-reverse : {X Y : Type 0} (f : X → Y) (xs : List X) → map f (reverse xs) ≡ reverse (map f xs)
 map-reverse f [] = refl
-map-reverse f (x ∷ xs) = ap (map f) (reverse-cons x xs) ∙ map-append f (reverse xs) (x ∷ []) ∙ ap (λ ys. ys ++ (f x ∷ [])) (map-reverse f xs) ∙ sym (reverse-cons (f x) (map f xs))
+map-reverse f (x ∷ xs) = simp (reverse-cons, map-append, map-reverse f xs)
 
 pub complement_here : (p n : ℕ) (s : List ℕ) → complement p (suc n) (p ∷ s) ≡ complement (suc p) n s
 complement_here p n s = cond-true (eqb p p) (complement (suc p) n s) (p ∷ complement (suc p) n (p ∷ s)) (eq-eqb p p refl)
