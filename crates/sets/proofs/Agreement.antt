@@ -1,12 +1,11 @@
 -- The definitions of a search come to the same as their second form, whose positions count from 0 and push their
 -- neighbours along; so what is proved of that form holds of every trace.
-use Rattle.std.proofs.Common.{◌≡◌, ℕ, zero, suc, ◌+◌, ◌-◌, ◌*◌, ◌<◌, ◌≤◌, min, max, Bool, true, false, cond, ◌&&◌, eqb, ltb, leb, List, [], ◌∷◌, ◌++◌, map, length, get_or, set, Some, None, sum, Option, sym, refl, ap, ◌∙◌, ap₂, inl, inr, add-one, arith}
+use Rattle.std.proofs.Common.{◌≡◌, ℕ, zero, suc, ◌+◌, ◌-◌, ◌*◌, ◌<◌, ◌≤◌, min, max, Bool, true, false, cond, ◌&&◌, eqb, ltb, List, [], ◌∷◌, ◌++◌, map, length, get_or, set, Some, None, sum, Option, sym, refl, ap, ◌∙◌, ap₂, add-one, arith}
 use mathlib.Core.Path.{fun_ext}
-use lib.Dec.{leb-suc-suc}
 use Rattle.std.specs.List.{range_with_len, flat_map}
 use Rattle.std.proofs.lemmas.List.{append_assoc, get_or_at, length_push, length-set}
 use Rattle.std.proofs.lemmas.List.Sums.{sum_by-cons}
-use Rattle.std.proofs.lemmas.Bool.{cases_lt, cond-true, cond-false, lt-ltb, le-ltb, eq-eqb, ne_eqb, lt-leb}
+use Rattle.std.proofs.lemmas.Bool.Decides.{nat_tests}
 use Rattle.measure.specs.Algebra.{Algebra, Row, Laws, Own}
 use Rattle.sets.specs.Sets.{Rows, total, sets, solutions}
 use Rattle.sets.specs.Spaces
@@ -39,12 +38,12 @@ by_index g k p (x ∷ s) e =
 each_same : (g h : ℕ → ℕ → ℕ) (k : ℕ) (s : List ℕ) → ((j x : ℕ) → k ≤ j → g j x ≡ h j x) → each_with g k s ≡ each_with h k s
 unfolding each_with
 each_same g h k [] f = refl
-each_same g h k (x ∷ s) f = ap₂ (λ z zs. z ∷ zs) (f k x (omega arith)) (each_same g h (k + 1) s (λ j y l. f j y (omega arith)))
+each_same g h k (x ∷ s) f = cc (f k x (omega arith), each_same g h (k + 1) s (λ j y l. f j y (omega arith)))
 
 each_id : (k : ℕ) (s : List ℕ) → each_with (λ j x. x) k s ≡ s
 unfolding each_with
 each_id k [] = refl
-each_id k (x ∷ s) = ap (λ t. x ∷ t) (each_id (k + 1) s)
+each_id k (x ∷ s) = cc (each_id (k + 1) s)
 
 -- the place of position j in the highest set with position i at v, x being its highest place
 raised_one : ℕ → ℕ → ℕ → ℕ → ℕ
@@ -54,43 +53,27 @@ raised_each : (i v k d : ℕ) (s : List ℕ) → k + d ≡ i → each_with (rais
 unfolding each_with raised_one
 raised_each i v k d [] e = refl
 raised_each i v k zero (x ∷ s) e =
-    ap₂ (λ z zs. z ∷ zs)
-    (cond-false (ltb k i) (min (v - (i - k)) x) (cond (eqb k i) v x) (le-ltb k i (omega arith)) ∙ cond-true (eqb k i) v x (eq-eqb k i (omega arith)))
-    (each_same (raised_one i v) (λ j y. y) (k + 1) s (λ j y l. cond-false (ltb j i) (min (v - (i - j)) y) (cond (eqb j i) v y) (le-ltb j i (omega arith)) ∙ cond-false (eqb j i) v y (ne_eqb j i (λ q. omega arith))) ∙ each_id (k + 1) s)
-raised_each i v k (suc d) (x ∷ s) e =
-    ap₂ (λ z zs. z ∷ zs)
-    (cond-true (ltb k i) (min (v - (i - k)) x) (cond (eqb k i) v x) (lt-ltb k i (omega arith)) ∙ (let z : min (v - (i - k)) x ≡ min (v - suc d) x = omega arith in z))
-    (raised_each i v (k + 1) d s (omega arith))
+    let past : each_with (raised_one i v) (k + 1) s ≡ s = each_same (raised_one i v) (λ j y. y) (k + 1) s (λ j y l. grind (arith, nat_tests)) ∙ each_id (k + 1) s in
+    grind (arith, nat_tests, past)
+raised_each i v k (suc d) (x ∷ s) e = grind (arith, nat_tests, raised_each i v (k + 1) d s (omega arith))
 
 -- the place of position j in the lowest set with position i at v, x being its lowest place
 lowered_one : ℕ → ℕ → ℕ → ℕ → ℕ
 lowered_one i v j x = cond (ltb j i) x (cond (eqb j i) v (max (v + (j - i)) x))
 
 above_loose : (u x : ℕ) (s : List ℕ) → Rising x s → above (suc u) s ≡ above (max (suc u) x) s
-above_loose u x s r = elim (cases_lt (suc u) x) [
-  | inl l ↦ above_same (suc u) s (rising_weaker x (suc u) s (omega arith) r) ∙ sym (above_same x s r) ∙ ap (λ w. above w s) (let z : x ≡ max (suc u) x = omega arith in z)
-  | inr l ↦ ap (λ w. above w s) (let z : suc u ≡ max (suc u) x = omega arith in z)
-]
+above_loose u x s r = grind (arith, above_same (suc u) s, rising_weaker x (suc u) s, above_same x s r)
 
 lowered_past : (i v k u b : ℕ) (s : List ℕ) → i < k → v + (k - i) ≡ suc u → Rising b s → each_with (lowered_one i v) k s ≡ above u s
 unfolding each_with lowered_one
 lowered_past i v k u b [] l e r = refl
-lowered_past i v k u b (x ∷ s) l e r =
-    ap₂ (λ z zs. z ∷ zs)
-    (cond-false (ltb k i) x (cond (eqb k i) v (max (v + (k - i)) x)) (le-ltb k i (omega arith)) ∙ cond-false (eqb k i) v (max (v + (k - i)) x) (ne_eqb k i (λ q. omega arith)) ∙ ap (λ w. max w x) e)
-    (lowered_past i v (k + 1) (suc u) x s (omega arith) (omega arith) r.1 ∙ above_loose u x s r.1)
+lowered_past i v k u b (x ∷ s) l e r = grind (arith, nat_tests, lowered_past i v (k + 1) (suc u) x s (omega arith) (omega arith) r.1, above_loose u x s r.1)
 
 lowered_each : (i v k d b : ℕ) (s : List ℕ) → k + d ≡ i → Rising b s → each_with (lowered_one i v) k s ≡ lifted s d v
 unfolding each_with lowered_one
 lowered_each i v k d b [] e r = refl
-lowered_each i v k zero b (x ∷ s) e r =
-    ap₂ (λ z zs. z ∷ zs)
-    (cond-false (ltb k i) x (cond (eqb k i) v (max (v + (k - i)) x)) (le-ltb k i (omega arith)) ∙ cond-true (eqb k i) v (max (v + (k - i)) x) (eq-eqb k i (omega arith)))
-    (lowered_past i v (k + 1) v x s (omega arith) (omega arith) r.1)
-lowered_each i v k (suc d) b (x ∷ s) e r =
-    ap₂ (λ z zs. z ∷ zs)
-    (cond-true (ltb k i) x (cond (eqb k i) v (max (v + (k - i)) x)) (lt-ltb k i (omega arith)))
-    (lowered_each i v (k + 1) d x s (omega arith) r.1)
+lowered_each i v k zero b (x ∷ s) e r = grind (arith, nat_tests, lowered_past i v (k + 1) v x s (omega arith) (omega arith) r.1)
+lowered_each i v k (suc d) b (x ∷ s) e r = grind (arith, nat_tests, lowered_each i v (k + 1) d x s (omega arith) r.1)
 
 least_same : (f : ℕ → Bool) (v n : ℕ) → Spaces.least f v n ≡ least f v n
 least_same f v zero = refl
@@ -106,9 +89,8 @@ before_is : (hi : List ℕ) (i : ℕ) → i < length hi → cond (ltb (suc i) (l
 before_is [] i l = absurd (omega arith)
 before_is (h ∷ []) zero l = refl
 before_is (h ∷ []) (suc i) l = absurd (omega arith)
-before_is (h ∷ k ∷ hi) zero l = cond-true (ltb 1 (suc (suc (length hi)))) (min h (k - 1)) h (lt-ltb 1 (suc (suc (length hi))) (omega arith))
-before_is (h ∷ k ∷ hi) (suc i) l =
-    ap (λ b. cond b (min (get_or (k ∷ hi) i 0) (get_or (k ∷ hi) (suc i) 0 - 1)) (get_or (k ∷ hi) i 0)) (leb-suc-suc (suc (suc i)) (length (k ∷ hi))) ∙ before_is (k ∷ hi) i (omega arith)
+before_is (h ∷ k ∷ hi) zero l = grind (arith, nat_tests)
+before_is (h ∷ k ∷ hi) (suc i) l = grind (arith, nat_tests, before_is (k ∷ hi) i (omega arith))
 
 -- `concat_map` is the library's `flat_map`
 concat_is : {A B : Type 0} (f : A → List B) (ys : List A) → Trace.concat_map f ys ≡ flat_map f ys
@@ -153,11 +135,7 @@ at_same s i = ap (λ k. get_or s k 0) (let z : suc i - 1 ≡ i = omega arith in 
 
 from_same : (lo : List ℕ) (i : ℕ) → 1 ≤ at lo 0 → Spaces.from lo (suc i) ≡ max (at lo i) (after lo i)
 from_same lo zero h = omega arith
-from_same lo (suc i) h =
-    ap₂ max (at_same lo (suc i)) (cond-false (leb (suc (suc i)) 1) 0 (Spaces.at lo (suc (suc i) - 1) + 1) (lt-leb (suc (suc i)) 1 (omega arith)) ∙ f)
-  where
-    f : Spaces.at lo (suc (suc i) - 1) + 1 ≡ suc (at lo i)
-    f = ap (λ k. get_or lo k 0 + 1) (let z : suc (suc i) - 1 - 1 ≡ i = omega arith in z) ∙ add-one (at lo i)
+from_same lo (suc i) h = grind (arith, nat_tests)
 
 upto_same : (hi : List ℕ) (i : ℕ) → i < length hi → Spaces.upto hi (suc i) ≡ before hi i
 upto_same hi i l =
@@ -252,16 +230,9 @@ child_each : (i v k d b : ℕ) (s : List ℕ) → k + d ≡ i → Rising b s →
 unfolding each_with child_one lowered_one
 child_each i v k d b [] e r h = refl
 child_each i v k zero b (x ∷ s) e r h =
-    ap₂ (λ z zs. z ∷ zs)
-    (cond-false (ltb k i) x (max x (v + (k - i))) (le-ltb k i (omega arith)) ∙ (let z : max x (v + (k - i)) ≡ v = omega arith in z))
-    (each_same (child_one i v) (lowered_one i v) (k + 1) s
-    (λ j y l. cond-false (ltb j i) y (max y (v + (j - i))) (le-ltb j i (omega arith)) ∙ (let z : max y (v + (j - i)) ≡ max (v + (j - i)) y = omega arith in z)
-    ∙ sym (cond-false (ltb j i) y (cond (eqb j i) v (max (v + (j - i)) y)) (le-ltb j i (omega arith)) ∙ cond-false (eqb j i) v (max (v + (j - i)) y) (ne_eqb j i (λ q. omega arith))))
-    ∙ lowered_past i v (k + 1) v x s (omega arith) (omega arith) r.1)
-child_each i v k (suc d) b (x ∷ s) e r h =
-    ap₂ (λ z zs. z ∷ zs)
-    (cond-true (ltb k i) x (max x (v + (k - i))) (lt-ltb k i (omega arith)))
-    (child_each i v (k + 1) d x s (omega arith) r.1 h)
+    let past : each_with (child_one i v) (k + 1) s ≡ above v s = each_same (child_one i v) (lowered_one i v) (k + 1) s (λ j y l. grind (arith, nat_tests)) ∙ lowered_past i v (k + 1) v x s (omega arith) (omega arith) r.1 in
+    grind (arith, nat_tests, past)
+child_each i v k (suc d) b (x ∷ s) e r h = grind (arith, nat_tests, child_each i v (k + 1) d x s (omega arith) r.1 h)
 
 module _ (a : Algebra) (laws : Laws a) (xs : List Row) (rows : Rows a xs) (low high : Row) (low_own : Own a low) (high_own : Own a high) (m : ℕ) (pos : 0 < m) where
   -- a child at the first open position

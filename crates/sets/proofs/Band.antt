@@ -15,7 +15,7 @@ use Rattle.sets.proofs.Complements.{complement_here, complement_past, complement
 use Rattle.sets.proofs.Totals.{place-own, total-own}
 use Rattle.sets.proofs.Choices.{counting_is}
 use Rattle.sets.proofs.Kept.{bool_same}
-use Rattle.sets.proofs.Trace.{members, count_rising, count_upto}
+use Rattle.sets.proofs.Trace.{of_sets, count_rising, count_upto}
 
 complement-rising : (b n : ℕ) (s : List ℕ) → Rising b (complement (suc b) n s)
 complement-rising b zero s = tt
@@ -163,6 +163,6 @@ module _ (a : Algebra) (laws : Laws a) where
       pub complement-solutions : (m : ℕ) → m ≤ length xs → map (complement 1 (length xs)) (solutions a xs m low high) ≡ reverse (solutions a xs (length xs - m) (minus a all high) (minus a all low))
       complement-solutions m l =
           map_kept (complement 1 (length xs)) (λ s. in_band a low high (total a xs s)) (λ s. in_band a (minus a all high) (minus a all low) (total a xs s)) (sets 1 (length xs) m)
-          (All-weaker (Among 0 (length xs) m) (λ s. in_band a (minus a all high) (minus a all low) (total a xs (complement 1 (length xs) s)) ≡ in_band a low high (total a xs s)) (complement_band m) (sets 1 (length xs) m) (members (length xs) m))
+          (of_sets (length xs) m (λ s. in_band a (minus a all high) (minus a all low) (total a xs (complement 1 (length xs) s)) ≡ in_band a low high (total a xs s)) (complement_band m))
           ∙ ap (filter (λ s. in_band a (minus a all high) (minus a all low) (total a xs s))) (complements_of_sets (length xs) m l)
           ∙ kept_reverse (λ s. in_band a (minus a all high) (minus a all low) (total a xs s)) (sets 1 (length xs) (length xs - m))

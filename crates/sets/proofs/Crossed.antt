@@ -17,7 +17,7 @@ use Rattle.sets.specs.Crossings.{cell, column_total, Lies, Before, Crosses, Solv
 use Rattle.sets.proofs.Vectors.{Rising, Upto}
 use Rattle.sets.proofs.Members.{all_of, all_in, lex_irreflexive, sets_sorted}
 use Rattle.sets.proofs.Kept.{kept_same}
-use Rattle.sets.proofs.Trace.{members, is_member, somes-flat_map}
+use Rattle.sets.proofs.Trace.{members, of_sets, is_member, somes-flat_map}
 use Rattle.sets.proofs.Agreement.{finds, counts}
 use Rattle.sets.proofs.Amounts.{raised, Wide, more, own_wide, wide_own, part_wide, nothing_wide, amounts_laws, raised-plus, raised-nothing, raised_order, raised-climbs, steeper, length-own, nothing_column, plus_column, above_column, column_above}
 use Rattle.sets.proofs.Listed.{in_kept, kept_in, in_joined, joined_in, sorted_kept, sorted_among, sorted_joined}
@@ -156,7 +156,7 @@ module _ (k : ℕ) (xs : List Row) (low high : Row) (m : ℕ) (c : Crosses k xs 
       finds (amounts (suc k)) (amounts_laws (suc k)) (shadows α 1 xs) (shadow_rows k xs own-entries) (shadow α β low) (shadow α β high) (shadow-own wα (own_wide k low own-low) β) (shadow-own wα (own_wide k high own-high) β) m c.some (subst (λ n. m ≤ n) (sym (shadows-length α 1 xs)) c.room)
       ∙ ap (λ n. filter (λ s. in_band (amounts (suc k)) (shadow α β low) (shadow α β high) (total (amounts (suc k)) (shadows α 1 xs) s)) (sets 1 n m)) (shadows-length α 1 xs)
       ∙ kept_same (λ s. in_band (amounts (suc k)) (shadow α β low) (shadow α β high) (total (amounts (suc k)) (shadows α 1 xs) s)) (λ s. good s && eqb (place_sum s) β) (sets 1 (length xs) m)
-      (All-weaker (Among 0 (length xs) m) (λ s. in_band (amounts (suc k)) (shadow α β low) (shadow α β high) (total (amounts (suc k)) (shadows α 1 xs) s) ≡ (good s && eqb (place_sum s) β)) (λ s h. set_band β s h) (sets 1 (length xs) m) (members (length xs) m))
+      (of_sets (length xs) m (λ s. in_band (amounts (suc k)) (shadow α β low) (shadow α β high) (total (amounts (suc k)) (shadows α 1 xs) s) ≡ (good s && eqb (place_sum s) β)) (λ s h. set_band β s h))
 
   pub crossed_finds : somes (crossed k xs low high m) ≡ crossed_solutions k xs low high m
   unfolding α straight part good
