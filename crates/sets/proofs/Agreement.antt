@@ -17,8 +17,7 @@ use Rattle.sets.proofs.Vectors.{Below, Rising, rising_weaker, rising_at, below_l
 use Rattle.sets.proofs.Choices.{Least, least_is, counting_is}
 use Rattle.sets.proofs.Squeeze.{Valid, Tight, Solves, raises_tight, pass_tight, squeeze_tight}
 use Rattle.sets.proofs.Opens.{Opens, open_is}
-use Rattle.sets.proofs.Kept.{joined_same}
-use Rattle.sets.proofs.Trace.{child_valid, values, start_valid, trace_finds, trace_counts}
+use Rattle.sets.proofs.Trace.{child_valid, joined_values, start_valid, trace_finds, trace_counts}
 use Rattle.sets.proofs.Steps.{after, before, raise_at, lower_at, raise_sweeps, lower_sweeps, topped-settled}
 
 -- a list made by index
@@ -318,8 +317,8 @@ module _ (a : Algebra) (laws : Laws a) (xs : List Row) (rows : Rows a xs) (low h
               ap (λ ys. None ∷ ys)
               (concat_is f (range_with_len (Spaces.at t.lo (1 + i)) (Spaces.at t.hi (1 + i) + 1 - Spaces.at t.lo (1 + i)))
               ∙ ap (flat_map f) (ap (λ j. range_with_len (get_or t.lo j 0) (get_or t.hi j 0 + 1 - get_or t.lo j 0)) k ∙ counting_is (at t.lo i) (at t.hi i + 1 - at t.lo i) ∙ ap (count_from (at t.lo i)) (let z : at t.hi i + 1 - at t.lo i ≡ suc (at t.hi i) - at t.lo i = omega arith in z))
-              ∙ joined_same f (λ v. explore a xs low high d (child t i v)) (λ v. (at t.lo i ≤ v) × (v ≤ at t.hi i))
-              (λ v b. ap (Trace.explore a xs low high d) (child_same t i v h.valid o b.0) ∙ ih (child t i v) (child_valid (length xs) m t i v h.valid il b.0 b.1)) vs (values t i o.1))
+              ∙ joined_values t i f (λ v. explore a xs low high d (child t i v)) o.1
+              (λ v l k. ap (Trace.explore a xs low high d) (child_same t i v h.valid o l) ∙ ih (child t i v) (child_valid (length xs) m t i v h.valid il l k)))
 
   -- the two forms have one trace
   pub trace_same : m ≤ length xs → Trace.trace a xs low high m ≡ trace a xs low high m

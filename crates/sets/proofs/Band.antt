@@ -47,7 +47,7 @@ minus a x y = a.plus x (a.reverse y)
 
 module _ (a : Algebra) (laws : Laws a) where
   swap : (x y z : Row) → Own a x → Own a y → Own a z → a.plus x (a.plus y z) ≡ a.plus y (a.plus x z)
-  swap x y z ox oy oz = sym (laws.plus_assoc x y z ox oy oz) ∙ ap (λ w. a.plus w z) (laws.plus_comm x y ox oy) ∙ laws.plus_assoc y x z oy ox oz
+  swap x y z ox oy oz = cc (laws.plus_assoc x y z ox oy oz, laws.plus_comm x y ox oy, laws.plus_assoc y x z oy ox oz)
 
   minus-own : (x y : Row) → Own a x → Own a y → Own a (minus a x y)
   minus-own x y ox oy = laws.plus_own x (a.reverse y) ox (laws.reverse_own y oy)
@@ -56,12 +56,12 @@ module _ (a : Algebra) (laws : Laws a) where
   minus_plus : (x y : Row) → Own a x → Own a y → a.plus (minus a x y) y ≡ x
   minus_plus x y ox oy =
       let ob : Own a (a.reverse y) = laws.reverse_own y oy in
-      laws.plus_assoc x (a.reverse y) y ox ob oy ∙ ap (λ w. a.plus x w) (laws.plus_comm (a.reverse y) y ob oy ∙ laws.plus_reverse y oy) ∙ laws.plus_nothing x ox
+      cc (laws.plus_assoc x (a.reverse y) y ox ob oy, laws.plus_comm (a.reverse y) y ob oy, laws.plus_reverse y oy, laws.plus_nothing x ox)
 
   rest_is : (x c t : Row) → Own a x → Own a c → a.plus x c ≡ t → c ≡ minus a t x
   rest_is x c t ox oc e =
       let ob : Own a (a.reverse x) = laws.reverse_own x ox in
-      sym (laws.plus_nothing c oc) ∙ ap (λ w. a.plus c w) (sym (laws.plus_reverse x ox)) ∙ sym (laws.plus_assoc c x (a.reverse x) oc ox ob) ∙ ap (λ w. a.plus w (a.reverse x)) (laws.plus_comm c x oc ox ∙ e)
+      cc (laws.plus_nothing c oc, laws.plus_reverse x ox, laws.plus_assoc c x (a.reverse x) oc ox ob, laws.plus_comm c x oc ox)
 
   minus_minus : (t x : Row) → Own a t → Own a x → minus a t (minus a t x) ≡ x
   minus_minus t x ot ox = sym (rest_is (minus a t x) x t (minus-own t x ot ox) ox (minus_plus t x ot ox))
@@ -70,7 +70,7 @@ module _ (a : Algebra) (laws : Laws a) where
   minus_swap t x y ot ox oy =
       let bx : Own a (a.reverse x) = laws.reverse_own x ox in
       let by : Own a (a.reverse y) = laws.reverse_own y oy in
-      laws.plus_assoc t (a.reverse x) (a.reverse y) ot bx by ∙ ap (λ w. a.plus t w) (laws.plus_comm (a.reverse x) (a.reverse y) bx by) ∙ sym (laws.plus_assoc t (a.reverse y) (a.reverse x) ot by bx)
+      cc (laws.plus_assoc t (a.reverse x) (a.reverse y) ot bx by, laws.plus_comm (a.reverse x) (a.reverse y) bx by, laws.plus_assoc t (a.reverse y) (a.reverse x) ot by bx)
 
   minus_flips : (t x y : Row) → Own a t → Own a x → Own a y → NotAbove a x y → NotAbove a (minus a t y) (minus a t x)
   minus_flips t x y ot ox oy h =

@@ -108,6 +108,10 @@ values t i l = from (at t.lo i) (choices t i) (omega arith) (omega arith)
     from a zero f g = tt
     from a (suc n) f g = ((f, omega arith), from (suc a) n (omega arith) (omega arith))
 
+-- two lists made from these values alike
+pub joined_values : {Y : Type 0} (t : Space) (i : ℕ) (f g : ℕ → List Y) → at t.lo i < at t.hi i → ((v : ℕ) → at t.lo i ≤ v → v ≤ at t.hi i → f v ≡ g v) → flat_map f (count_from (at t.lo i) (choices t i)) ≡ flat_map g (count_from (at t.lo i) (choices t i))
+joined_values t i f g o h = joined_same f g (λ v. (at t.lo i ≤ v) × (v ≤ at t.hi i)) (λ v b. h v b.0 b.1) (count_from (at t.lo i) (choices t i)) (values t i o)
+
 pub count_rising : (b m : ℕ) → Rising b (count_from (suc b) m)
 count_rising b zero = tt
 count_rising b (suc m) = (omega arith, count_rising (suc b) m)
@@ -163,7 +167,7 @@ children : (good : List ℕ → Bool) (n m : ℕ) (t : Space) (i : ℕ) → Vali
     filter (within good t) (sets 1 n m) ≡ flat_map (λ v. filter (within good (child t i v)) (sets 1 n m)) (count_from (at t.lo i) (choices t i))
 children good n m t i w o =
     kept_split Lex (within good t) (λ x. at x i) mono (at t.lo i) (choices t i) (sets 1 n m) (sets_sorted 0 n m) (of_sets n m (λ x. within good t x ≡ true → (at t.lo i ≤ at x i) × (at x i < at t.lo i + choices t i)) range)
-    ∙ joined_same (λ v. filter (λ x. within good t x && eqb (at x i) v) (sets 1 n m)) (λ v. filter (within good (child t i v)) (sets 1 n m)) (λ v. (at t.lo i ≤ v) × (v ≤ at t.hi i)) each (count_from (at t.lo i) (choices t i)) (values t i o.1)
+    ∙ joined_values t i (λ v. filter (λ x. within good t x && eqb (at x i) v) (sets 1 n m)) (λ v. filter (within good (child t i v)) (sets 1 n m)) o.1 each
   where
     l : i < m
     l = omega (arith, o.0, w.size)
@@ -181,8 +185,8 @@ children good n m t i w o =
         let g : at x i ≤ at t.hi i = below_at x t.hi i p.1 in
         (f, omega (arith, o.1))
 
-    each : (v : ℕ) → (at t.lo i ≤ v) × (v ≤ at t.hi i) → filter (λ x. within good t x && eqb (at x i) v) (sets 1 n m) ≡ filter (within good (child t i v)) (sets 1 n m)
-    each v h = kept_same (λ x. within good t x && eqb (at x i) v) (within good (child t i v)) (sets 1 n m) (of_sets n m (λ x. (within good t x && eqb (at x i) v) ≡ within good (child t i v) x) (λ x am. sym (child_within good n m t i v w l h.0 h.1 x am)))
+    each : (v : ℕ) → at t.lo i ≤ v → v ≤ at t.hi i → filter (λ x. within good t x && eqb (at x i) v) (sets 1 n m) ≡ filter (within good (child t i v)) (sets 1 n m)
+    each v f g = kept_same (λ x. within good t x && eqb (at x i) v) (within good (child t i v)) (sets 1 n m) (of_sets n m (λ x. (within good t x && eqb (at x i) v) ≡ within good (child t i v) x) (λ x am. sym (child_within good n m t i v w l f g x am)))
 
 module _ (a : Algebra) (laws : Laws a) (xs : List Row) (rows : Rows a xs) (low high : Row) (low_own : Own a low) (high_own : Own a high) (m : ℕ) where
   -- the total of x lies in the band
@@ -230,9 +234,8 @@ module _ (a : Algebra) (laws : Laws a) (xs : List Row) (rows : Rows a xs) (low h
               let zt : Settled k t.lo t.hi = settled_within k s.lo t.lo t.hi s.hi h.up h.valid.between h.down z in
               let ki : k ≤ i = settled_open k t.lo t.hi i zt o.0 o.1 in
               somes-flat_map (λ v. explore a xs low high d (child t i v)) (count_from (at t.lo i) (choices t i))
-              ∙ joined_same (λ w. somes (explore a xs low high d (child t i w))) (λ w. filter (within good (child t i w)) (sets 1 (length xs) m)) (λ w. (at t.lo i ≤ w) × (w ≤ at t.hi i))
-              (λ w b. ih (suc i) (child t i w) pos (child_valid (length xs) m t i w h.valid il b.0 b.1) (child-settled (length xs) m t i w h.valid il b.0 b.1 o.2) il (omega arith))
-              (count_from (at t.lo i) (choices t i)) (values t i o.1)
+              ∙ joined_values t i (λ w. somes (explore a xs low high d (child t i w))) (λ w. filter (within good (child t i w)) (sets 1 (length xs) m)) o.1
+              (λ w f g. ih (suc i) (child t i w) pos (child_valid (length xs) m t i w h.valid il f g) (child-settled (length xs) m t i w h.valid il f g o.2) il (omega arith))
               ∙ sym (children good (length xs) m t i h.valid o)
 
   -- every set passes
