@@ -147,5 +147,4 @@ pub struct Band<M> {
 // The span of an amount is the least that will do.
 pub fn spans_are_least()
     ensures { SpanLeast }
-{
-}
+{}
