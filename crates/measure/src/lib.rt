@@ -114,6 +114,7 @@ impl<A: Measure, B: Measure> Measure for Pair<A, B> {
         }
     }
 
+    #[tactic(auto, using(crate::specs::JoinedLaws::joined_steps))]
     fn plus(self, other: Pair<A, B>) -> Pair<A, B> {
         Pair {
             first: self.first.plus(other.first),
@@ -121,6 +122,7 @@ impl<A: Measure, B: Measure> Measure for Pair<A, B> {
         }
     }
 
+    #[tactic(auto, using(crate::specs::JoinedLaws::joined_steps))]
     fn minus(self, other: Pair<A, B>) -> Pair<A, B> {
         Pair {
             first: self.first.minus(other.first),
