@@ -1,6 +1,6 @@
 -- The definitions of a search come to the same as their second form, whose positions count from 0 and push their
 -- neighbours along; so what is proved of that form holds of every trace.
-use Rattle.std.proofs.Common.{◌≡◌, ℕ, zero, suc, ◌+◌, ◌-◌, ◌*◌, ◌<◌, ◌≤◌, min, max, Bool, true, false, cond, ◌&&◌, eqb, ltb, List, [], ◌∷◌, ◌++◌, map, length, get_or, set, Some, None, sum, Option, sym, refl, ap, ◌∙◌, ap₂, add-one, arith}
+use Rattle.std.proofs.Common.{◌≡◌, ℕ, zero, suc, ◌+◌, ◌-◌, ◌*◌, ◌<◌, ◌≤◌, min, max, Bool, cond, ◌&&◌, eqb, ltb, List, [], ◌∷◌, ◌++◌, map, length, get_or, set, Some, None, sum, Option, sym, refl, ap, ◌∙◌, ap₂, add-one, arith}
 use mathlib.Core.Path.{fun_ext}
 use Rattle.std.specs.List.{range_with_len, flat_map}
 use Rattle.std.proofs.lemmas.List.{append_assoc, get_or_at, length_push, length-set}
@@ -113,12 +113,7 @@ open_shift i (Some j) = ap Some (let z : i + 1 + j ≡ i + suc j = omega arith i
 open_same : (i : ℕ) (lo hi : List ℕ) → Spaces.open_at i lo hi ≡ then (open_at lo hi) (λ j. Some (i + j))
 open_same i [] hi = refl
 open_same i (l ∷ lo) [] = refl
-open_same i (l ∷ lo) (h ∷ hi) = go (ltb l h) (open_same (i + 1) lo hi)
-  where
-    go : (b : Bool) → Spaces.open_at (i + 1) lo hi ≡ then (open_at lo hi) (λ j. Some (i + 1 + j)) →
-        cond b (Some i) (Spaces.open_at (i + 1) lo hi) ≡ then (cond b (Some 0) (then (open_at lo hi) (λ j. Some (suc j)))) (λ j. Some (i + j))
-    go true ih = ap Some (let z : i ≡ i + 0 = omega arith in z)
-    go false ih = ih ∙ open_shift i (open_at lo hi)
+open_same i (l ∷ lo) (h ∷ hi) = grind (arith, open_same (i + 1) lo hi, open_shift i (open_at lo hi))
 
 raised_same : (hi : List ℕ) (i v : ℕ) → Spaces.raised hi (suc i) v ≡ topped hi i v
 unfolding raised_one

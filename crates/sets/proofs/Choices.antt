@@ -1,9 +1,9 @@
 -- What `least`, `greatest`, `count_from`, `count_down`, `same` and `widths` answer.
-use Rattle.std.proofs.Common.{◌≡◌, ℕ, zero, suc, ◌+◌, ◌<◌, ◌≤◌, Bool, true, false, cond, eqb, List, [], ◌∷◌, Some, None, Option, refl, ap, ◌∙◌, add-one, arith}
+use Rattle.std.proofs.Common.{◌≡◌, ℕ, zero, suc, ◌+◌, ◌<◌, ◌≤◌, Bool, true, false, eqb, List, [], ◌∷◌, Some, None, Option, refl, ap, ◌∙◌, add-one, arith}
 use Rattle.std.specs.List.{range_with_len, AllByRecursion}
 use Rattle.std.proofs.ByRecursion.{All-weaker}
 use Rattle.std.proofs.lemmas.Bool.Decides.{nat_tests}
-use Rattle.std.proofs.lemmas.Bool.{eq-eqb, and_from}
+use Rattle.std.proofs.lemmas.Bool.{cond_both, eq-eqb, and_from}
 use Rattle.sets.proofs.Forms.{least, greatest, count_from, count_down, widths}
 use Rattle.sets.specs.Spaces.{same}
 use Rattle.sets.proofs.Vectors.{Below}
@@ -17,13 +17,10 @@ least_skip : (f : ℕ → Bool) (v n : ℕ) (q : Option ℕ) → f v ≡ false �
 least_skip f v n None e h = λ u l k t. grind (arith, h u)
 least_skip f v n (Some w) e h = (omega arith, omega arith, h.2, λ u l k t. grind (arith, h.3 u))
 
-least_step : (f : ℕ → Bool) (v n : ℕ) (q : Option ℕ) (b : Bool) → f v ≡ b → Least f (suc v) n q → Least f v (suc n) (cond b (Some v) q)
-least_step f v n q true e h = (omega arith, omega arith, e, λ u l k t. l)
-least_step f v n q false e h = least_skip f v n q e h
-
 pub least_is : (f : ℕ → Bool) (v n : ℕ) → Least f v n (least f v n)
 least_is f v zero = λ u l k t. omega arith
-least_is f v (suc n) = least_step f v n (least f (suc v) n) (f v) refl (least_is f (suc v) n)
+least_is f v (suc n) =
+    cond_both (f v) (Some v) (least f (suc v) n) (Least f v (suc n)) (λ e. (omega arith, omega arith, e, λ u l k t. l)) (λ e. least_skip f v n (least f (suc v) n) e (least_is f (suc v) n))
 
 -- what `greatest` tells: none passes, or w is the greatest that does
 abbrev pub Greatest : (ℕ → Bool) → ℕ → ℕ → Option ℕ → Type 0
@@ -34,13 +31,10 @@ greatest_skip : (f : ℕ → Bool) (v n : ℕ) (q : Option ℕ) → f (v + n) �
 greatest_skip f v n None e h = λ u l k t. grind (arith, h u)
 greatest_skip f v n (Some w) e h = (h.0, omega arith, h.2, λ u l k t. grind (arith, h.3 u))
 
-greatest_step : (f : ℕ → Bool) (v n : ℕ) (q : Option ℕ) (b : Bool) → f (v + n) ≡ b → Greatest f v n q → Greatest f v (suc n) (cond b (Some (v + n)) q)
-greatest_step f v n q true e h = (omega arith, omega arith, e, λ u l k t. omega arith)
-greatest_step f v n q false e h = greatest_skip f v n q e h
-
 pub greatest_is : (f : ℕ → Bool) (v n : ℕ) → Greatest f v n (greatest f v n)
 greatest_is f v zero = λ u l k t. omega arith
-greatest_is f v (suc n) = greatest_step f v n (greatest f v n) (f (v + n)) refl (greatest_is f v n)
+greatest_is f v (suc n) =
+    cond_both (f (v + n)) (Some (v + n)) (greatest f v n) (Greatest f v (suc n)) (λ e. (omega arith, omega arith, e, λ u l k t. omega arith)) (λ e. greatest_skip f v n (greatest f v n) e (greatest_is f v n))
 
 pub counting_is : (i n : ℕ) → range_with_len i n ≡ count_from i n
 counting_is i zero = refl

@@ -7,7 +7,8 @@ use mathlib.Core.Bool.{and-true}
 use mathlib.Core.Path.{fun_ext}
 use Rattle.std.proofs.lemmas.List.Concat.{length-flat_map}
 use Rattle.std.proofs.lemmas.List.Sums.{sum_by-le}
-use Rattle.std.proofs.lemmas.Bool.{false_from_ne_true, and_from, and_parts, and_right, cases_eq, eq-eqb, eqb-true, ne_eqb, le-leb, leb-true}
+use Rattle.std.proofs.lemmas.Bool.Decides.{nat_tests}
+use Rattle.std.proofs.lemmas.Bool.{false_from_ne_true, and_from, and_parts, and_right, cases_eq, eq-eqb, eqb-true, ne_eqb, le-leb}
 use Rattle.measure.specs.Algebra.{Row, Own, NotAbove}
 use Rattle.sets.specs.Sets.{Rows, Climbs, sets, total, at_place, in_band}
 use Rattle.sets.specs.Trace.{Trace, trace, somes}
@@ -88,16 +89,11 @@ module _ (k : ℕ) (xs : List Row) (o : AllByRecursion (Own (amounts k)) xs) whe
 module _ (k : ℕ) (α low high t : Row) (a : Wide k α) (l : Wide k low) (h : Wide k high) (w : Wide k t) where
   -- with the rank total of the band, a row lies in the shadowed band just if it lies in the band
   band_here : (β : ℕ) → in_band (amounts (suc k)) (shadow α β low) (shadow α β high) (shadow α β t) ≡ in_band (amounts k) low high t
-  band_here β = ap₂ (λ x y. (x && (amounts k).not_above (raised α β low) (raised α β t)) && (y && (amounts k).not_above (raised α β t) (raised α β high))) (le-leb β β (omega arith)) (le-leb β β (omega arith))
-      ∙ ap₂ (λ x y. x && y) (raised_order a l w β) (raised_order a w h β)
+  band_here β = grind (arith, nat_tests, raised_order a l w β, raised_order a w h β)
 
   -- with another rank total, it does not
   band_same : (β r : ℕ) → in_band (amounts (suc k)) (shadow α β low) (shadow α β high) (shadow α r t) ≡ true → r ≡ β
-  band_same β r e =
-      let p = and_parts ((amounts (suc k)).not_above (shadow α β low) (shadow α r t)) ((amounts (suc k)).not_above (shadow α r t) (shadow α β high)) e in
-      let q = and_parts (leb β r) ((amounts k).not_above (raised α β low) (raised α r t)) p.0 in
-      let s = and_parts (leb r β) ((amounts k).not_above (raised α r t) (raised α β high)) p.1 in
-      omega (arith, leb-true β r q.0, leb-true r β s.0)
+  band_same β r e = grind (arith, nat_tests)
 
   band_is : (β r : ℕ) → in_band (amounts (suc k)) (shadow α β low) (shadow α β high) (shadow α r t) ≡ (in_band (amounts k) low high t && eqb r β)
   band_is β r = elim (cases_eq r β) [

@@ -18,7 +18,7 @@ module _ {X : Type 0} where
   in_append : (x : X) (ys zs : List X) → In x (ys ++ zs) → In x ys ⊎ In x zs
   in_append x [] zs h = inr h
   in_append x (y ∷ ys) zs (inl e) = inl (inl e)
-  in_append x (y ∷ ys) zs (inr h) = elim (in_append x ys zs h) [ inl k ↦ inl (inr k) | inr k ↦ inr k ]
+  in_append x (y ∷ ys) zs (inr h) = grind (arith, in_append x ys zs h)
 
   pub in_kept : (p : X → Bool) (x : X) (xs : List X) → In x (filter p xs) → In x xs × (p x ≡ true)
   in_kept p x [] h = absurd h

@@ -1,7 +1,7 @@
 -- Squeezing loses no set of the band, keeps a space a space, and ends where a settled space is in the band.
-use Rattle.std.proofs.Common.{◌≡◌, ℕ, zero, suc, ◌+◌, ◌<◌, ◌≤◌, Bool, true, false, cond, ◌&&◌, List, [], ◌∷◌, length, Some, None, Option, sym, refl, ap, ◌∙◌, subst, inl, inr, arith}
+use Rattle.std.proofs.Common.{◌≡◌, ℕ, zero, suc, ◌+◌, ◌<◌, ◌≤◌, Bool, true, cond, ◌&&◌, List, [], ◌∷◌, length, Some, None, Option, sym, refl, ap, ◌∙◌, subst, inl, inr, arith}
 use Rattle.std.specs.List.{AllByRecursion}
-use Rattle.std.proofs.lemmas.Bool.{cases_lt, both_ways, and_parts, and_from}
+use Rattle.std.proofs.lemmas.Bool.{cond_both, cases_lt, both_ways, and_parts, and_from}
 use Rattle.measure.specs.Algebra.{Algebra, Row, Laws, Own, NotAbove}
 use Rattle.sets.specs.Sets.{Rows, total, in_band}
 use Rattle.sets.specs.Spaces.{Space, same}
@@ -182,11 +182,9 @@ module _ (a : Algebra) (laws : Laws a) (xs : List Row) (rows : Rows a xs) (low h
 
   pub squeeze_tight : (n : ℕ) (s : Space) → Valid (length xs) m s → Tight Solved (length xs) m s (squeeze a xs low high n s)
   squeeze_tight zero s v = pass_tight s v
-  squeeze_tight (suc n) s v = tight_then Solved (length xs) m s (pass a xs low high s) (λ t. cond (same s.lo t.lo && same s.hi t.hi) (Some t) (squeeze a xs low high n t)) (pass_tight s v) (λ t w. again (same s.lo t.lo && same s.hi t.hi) t (squeeze a xs low high n t) w (squeeze_tight n t w))
-    where
-      again : (b : Bool) (t : Space) (q : Option Space) → Valid (length xs) m t → Tight Solved (length xs) m t q → Tight Solved (length xs) m t (cond b (Some t) q)
-      again true t q w h = tighter_self Solved (length xs) m t w
-      again false t q w h = h
+  squeeze_tight (suc n) s v =
+      tight_then Solved (length xs) m s (pass a xs low high s) (λ t. cond (same s.lo t.lo && same s.hi t.hi) (Some t) (squeeze a xs low high n t)) (pass_tight s v)
+      (λ t w. cond_both (same s.lo t.lo && same s.hi t.hi) (Some t) (squeeze a xs low high n t) (Tight Solved (length xs) m t) (λ _. tighter_self Solved (length xs) m t w) (λ _. squeeze_tight n t w))
 
   fixed_level : (s t : Space) → Valid (length xs) m s → Tighter Solved (length xs) m s t → pass a xs low high s ≡ Some t → widths s.lo s.hi ≤ widths t.lo t.hi → s ≡ t
   fixed_level s t v h e l =
@@ -203,17 +201,14 @@ module _ (a : Algebra) (laws : Laws a) (xs : List Row) (rows : Rows a xs) (low h
     where
       go : (q : Option Space) → pass a xs low high s ≡ q → Tight Solved (length xs) m s q → ((t : Space) → Valid (length xs) m t → widths t.lo t.hi ≤ n → Fixed a xs low high (squeeze a xs low high n t)) → Fixed a xs low high (then q (λ t. cond (same s.lo t.lo && same s.hi t.hi) (Some t) (squeeze a xs low high n t)))
       go None e h ih = tt
-      go (Some t) e h ih = test (same s.lo t.lo && same s.hi t.hi) refl
-        where
-          test : (b : Bool) → (same s.lo t.lo && same s.hi t.hi) ≡ b → Fixed a xs low high (cond b (Some t) (squeeze a xs low high n t))
-          test true f =
-              let p = and_parts (same s.lo t.lo) (same s.hi t.hi) f in
-              subst (λ u. pass a xs low high u ≡ Some t) (space_same s t (same_true s.lo t.lo p.0) (same_true s.hi t.hi p.1)) e
-          test false f = elim (cases_lt (widths t.lo t.hi) (widths s.lo s.hi)) [
+      go (Some t) e h ih =
+          cond_both (same s.lo t.lo && same s.hi t.hi) (Some t) (squeeze a xs low high n t) (Fixed a xs low high)
+          (λ f. let p = and_parts (same s.lo t.lo) (same s.hi t.hi) f in subst (λ u. pass a xs low high u ≡ Some t) (space_same s t (same_true s.lo t.lo p.0) (same_true s.hi t.hi p.1)) e)
+          (λ f. elim (cases_lt (widths t.lo t.hi) (widths s.lo s.hi)) [
             | inl k ↦ ih t h.valid (omega arith)
             | inr k ↦ absurd (both_ways (same s.lo t.lo && same s.hi t.hi) f
                 (subst (λ u. (same s.lo u.lo && same s.hi u.hi) ≡ true) (fixed_level s t v h e k) (and_from (same s.lo s.lo) (same s.hi s.hi) (same_self s.lo) (same_self s.hi))))
-          ]
+          ])
 
   raise_fixed : (s : Space) (i : ℕ) → Valid (length xs) m s → i < m → raise a xs low high s i ≡ Some s → reaches s i (at s.lo i) ≡ true
   unfolding reaches
