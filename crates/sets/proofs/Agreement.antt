@@ -1,6 +1,6 @@
 -- The definitions of a search come to the same as their second form, whose positions count from 0 and push their
 -- neighbours along; so what is proved of that form holds of every trace.
-use Rattle.std.proofs.Common.{◌≡◌, ℕ, zero, suc, ◌+◌, ◌-◌, ◌*◌, ◌<◌, ◌≤◌, min, max, Bool, cond, ◌&&◌, eqb, ltb, List, [], ◌∷◌, ◌++◌, map, length, get_or, set, Some, None, sum, Option, sym, refl, ap, ◌∙◌, ap₂, add-one, arith}
+use Rattle.std.proofs.Common.{◌≡◌, ℕ, zero, suc, ◌+◌, ◌-◌, ◌*◌, ◌<◌, ◌≤◌, min, max, Bool, cond, ◌&&◌, eqb, ltb, List, [], ◌∷◌, ◌++◌, map, length, get_or, set, Some, None, sum, Option, option_and_then, sym, refl, ap, ◌∙◌, ap₂, add-one, arith}
 use mathlib.Core.Path.{fun_ext}
 use Rattle.std.specs.List.{range_with_len, flat_map}
 use Rattle.std.proofs.lemmas.List.{append_assoc, get_or_at, length_push, length-set}
@@ -12,7 +12,7 @@ use Rattle.sets.specs.Spaces
 use Rattle.sets.specs.Spaces.{Space, space, same}
 use Rattle.sets.specs.Trace
 use Rattle.sets.specs.Trace.{somes}
-use Rattle.sets.proofs.Forms.{then, at, above, lifted, topped, child, choices, count_from, count_down, least, greatest, sweep, widths, open_at, split, examined, raise, lower, pass, squeeze, squeezed, explore, trace}
+use Rattle.sets.proofs.Forms.{at, above, lifted, topped, child, choices, count_from, count_down, least, greatest, sweep, widths, open_at, split, examined, raise, lower, pass, squeeze, squeezed, explore, trace}
 use Rattle.sets.proofs.Vectors.{Below, Rising, rising_weaker, rising_at, below_length, above_same}
 use Rattle.sets.proofs.Choices.{Least, least_is, counting_is}
 use Rattle.sets.proofs.Squeeze.{Valid, Tight, Solves, raises_tight, pass_tight, squeeze_tight}
@@ -106,11 +106,11 @@ widths_add (l ∷ lo) (h ∷ hi) b = omega (arith, sum_by-cons (λ x. x) l lo, s
 widths_same : (lo hi : List ℕ) → Below lo hi → Spaces.widths lo hi ≡ widths lo hi
 widths_same lo hi b = omega (arith, widths_add lo hi b)
 
-open_shift : (i : ℕ) (q : Option ℕ) → then q (λ j. Some (i + 1 + j)) ≡ then (then q (λ j. Some (suc j))) (λ j. Some (i + j))
+open_shift : (i : ℕ) (q : Option ℕ) → option_and_then (λ j. Some (i + 1 + j)) q ≡ option_and_then (λ j. Some (i + j)) (option_and_then (λ j. Some (suc j)) q)
 open_shift i None = refl
 open_shift i (Some j) = ap Some (let z : i + 1 + j ≡ i + suc j = omega arith in z)
 
-open_same : (i : ℕ) (lo hi : List ℕ) → Spaces.open_at i lo hi ≡ then (open_at lo hi) (λ j. Some (i + j))
+open_same : (i : ℕ) (lo hi : List ℕ) → Spaces.open_at i lo hi ≡ option_and_then (λ j. Some (i + j)) (open_at lo hi)
 open_same i [] hi = refl
 open_same i (l ∷ lo) [] = refl
 open_same i (l ∷ lo) (h ∷ hi) = grind (arith, open_same (i + 1) lo hi, open_shift i (open_at lo hi))
@@ -177,11 +177,11 @@ module _ (a : Algebra) (xs : List Row) (low high : Row) where
 
   -- a list of lowest places as a space
   abbrev with_hi : List ℕ → Option (List ℕ) → Option Space
-  with_hi hi q = then q (λ l. Some (space l hi))
+  with_hi hi q = option_and_then (λ l. Some (space l hi)) q
 
   -- a list of highest places as a space
   abbrev with_lo : List ℕ → Option (List ℕ) → Option Space
-  with_lo lo q = then q (λ h. Some (space lo h))
+  with_lo lo q = option_and_then (λ h. Some (space lo h)) q
 
   -- raising from position j on
   raises_same : (n k j : ℕ) (lo hi : List ℕ) → j ≡ suc k → 1 ≤ at lo 0 → with_hi hi (Spaces.raise_from a xs low hi j n lo) ≡ sweep (raise_at a xs low high) (count_from k n) (space lo hi)
@@ -199,7 +199,7 @@ module _ (a : Algebra) (xs : List Row) (low high : Row) where
 
       go : (q : Option ℕ) → Least f u (suc (at hi k) - u) q → ((v : ℕ) → 1 ≤ v → with_hi hi (Spaces.raise_from a xs low hi (suc k + 1) n (set lo k v)) ≡ sweep (raise_at a xs low high) (count_from (suc k) n) (space (set lo k v) hi)) →
           with_hi hi (elim q as (λ _. Option (List ℕ)) [ None ↦ None | Some v ↦ Spaces.raise_from a xs low hi (suc k + 1) n (set lo (suc k - 1) v) ])
-          ≡ then (then q (λ v. Some (space (set lo k v) hi))) (sweep (raise_at a xs low high) (count_from (suc k) n))
+          ≡ option_and_then (sweep (raise_at a xs low high) (count_from (suc k) n)) (option_and_then (λ v. Some (space (set lo k v) hi)) q)
       go None h ih = refl
       go (Some v) h ih = ap (λ i. with_hi hi (Spaces.raise_from a xs low hi (suc k + 1) n (set lo i v))) (let z : suc k - 1 ≡ k = omega arith in z) ∙ ih v (omega (arith, h.0, after_pos lo k))
 
@@ -212,7 +212,7 @@ module _ (a : Algebra) (xs : List Row) (low high : Row) where
     where
       go : (q : Option ℕ) → ((v : ℕ) → with_lo lo (Spaces.lower_from a xs high lo n (set hi n v)) ≡ sweep (lower_at a xs low high) (count_down n) (space lo (set hi n v))) →
           with_lo lo (elim q as (λ _. Option (List ℕ)) [ None ↦ None | Some v ↦ Spaces.lower_from a xs high lo n (set hi n v) ])
-          ≡ then (then q (λ v. Some (space lo (set hi n v)))) (sweep (lower_at a xs low high) (count_down n))
+          ≡ option_and_then (sweep (lower_at a xs low high) (count_down n)) (option_and_then (λ v. Some (space lo (set hi n v))) q)
       go None ih = refl
       go (Some v) ih = ih v
 
@@ -244,8 +244,8 @@ module _ (a : Algebra) (laws : Laws a) (xs : List Row) (rows : Rows a xs) (low h
   pub pass_same : (s : Space) → Valid (length xs) m s → Spaces.pass a xs low high s ≡ pass a xs low high s
   pass_same s v =
       parts (Spaces.raise_from a xs low s.hi 1 (length s.hi) s.lo)
-      ∙ ap (λ n. then (with_hi a xs low high s.hi (Spaces.raise_from a xs low s.hi 1 n s.lo)) lowered_all) (sym (below_length s.lo s.hi v.between))
-      ∙ ap (λ q. then q lowered_all) (raises_same a xs low high (length s.lo) 0 1 s.lo s.hi refl first ∙ raise_sweeps a xs low high m s v)
+      ∙ ap (λ n. option_and_then lowered_all (with_hi a xs low high s.hi (Spaces.raise_from a xs low s.hi 1 n s.lo))) (sym (below_length s.lo s.hi v.between))
+      ∙ ap (λ q. option_and_then lowered_all q) (raises_same a xs low high (length s.lo) 0 1 s.lo s.hi refl first ∙ raise_sweeps a xs low high m s v)
       ∙ go (sweep (raise a xs low high) (count_from 0 (length s.lo)) s) (raises_tight a laws xs rows low high low_own high_own m s (length s.lo) v.size v)
     where
       first : 1 ≤ at s.lo 0
@@ -257,11 +257,11 @@ module _ (a : Algebra) (laws : Laws a) (xs : List Row) (rows : Rows a xs) (low h
 
       parts : (q : Option (List ℕ)) →
           (elim q as (λ _. Option Space) [ None ↦ None | Some l ↦ elim (Spaces.lower_from a xs high l (length l) s.hi) as (λ _. Option Space) [ None ↦ None | Some h ↦ Some (space l h) ] ])
-          ≡ then (with_hi a xs low high s.hi q) lowered_all
+          ≡ option_and_then lowered_all (with_hi a xs low high s.hi q)
       parts None = refl
       parts (Some l) = joins l (Spaces.lower_from a xs high l (length l) s.hi)
 
-      go : (q : Option Space) → Tight (Solves a xs low high) (length xs) m s q → then q lowered_all ≡ then q (sweep (lower a xs low high) (count_down (length s.lo)))
+      go : (q : Option Space) → Tight (Solves a xs low high) (length xs) m s q → option_and_then lowered_all q ≡ option_and_then (sweep (lower a xs low high) (count_down (length s.lo))) q
       go None h = refl
       go (Some t) h =
           lowers_same a xs low high (length t.lo) 0 t.lo t.hi h.valid.rising_lo (omega (arith, below_length t.lo t.hi h.valid.between))
@@ -276,7 +276,7 @@ module _ (a : Algebra) (laws : Laws a) (xs : List Row) (rows : Rows a xs) (low h
     where
       go : (q : Option Space) → Tight (Solves a xs low high) (length xs) m s q → ((t : Space) → Valid (length xs) m t → Spaces.squeeze a xs low high n t ≡ squeeze a xs low high n t) →
           (elim q as (λ _. Option Space) [ None ↦ None | Some t ↦ cond (same s.lo t.lo && same s.hi t.hi) (Some t) (Spaces.squeeze a xs low high n t) ])
-          ≡ then q (λ t. cond (same s.lo t.lo && same s.hi t.hi) (Some t) (squeeze a xs low high n t))
+          ≡ option_and_then (λ t. cond (same s.lo t.lo && same s.hi t.hi) (Some t) (squeeze a xs low high n t)) q
       go None h ih = refl
       go (Some t) h ih = ap (cond (same s.lo t.lo && same s.hi t.hi) (Some t)) (ih t h.valid)
 
@@ -302,7 +302,7 @@ module _ (a : Algebra) (laws : Laws a) (xs : List Row) (rows : Rows a xs) (low h
       go None h ih = refl
       go (Some t) h ih = ap (split_from_1 d t) (open_same 1 t.lo t.hi) ∙ part (open_at t.lo t.hi) (open_is t.lo t.hi h.valid.between)
         where
-          part : (q : Option ℕ) → Opens t.lo t.hi q → split_from_1 d t (then q (λ j. Some (1 + j))) ≡ split (explore a xs low high d) t q
+          part : (q : Option ℕ) → Opens t.lo t.hi q → split_from_1 d t (option_and_then (λ j. Some (1 + j)) q) ≡ split (explore a xs low high d) t q
           part None o = refl
           part (Some i) o =
               let il : i < m = omega (arith, o.0, h.valid.size) in

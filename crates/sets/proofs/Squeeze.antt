@@ -1,11 +1,11 @@
 -- Squeezing loses no set of the band, keeps a space a space, and ends where a settled space is in the band.
-use Rattle.std.proofs.Common.{◌≡◌, ℕ, zero, suc, ◌+◌, ◌<◌, ◌≤◌, Bool, true, cond, ◌&&◌, List, [], ◌∷◌, length, Some, None, Option, sym, refl, ap, ◌∙◌, subst, inl, inr, arith}
+use Rattle.std.proofs.Common.{◌≡◌, ℕ, zero, suc, ◌+◌, ◌<◌, ◌≤◌, Bool, true, cond, ◌&&◌, List, [], ◌∷◌, length, Some, None, Option, option_and_then, sym, refl, ap, ◌∙◌, subst, inl, inr, arith}
 use Rattle.std.specs.List.{AllByRecursion}
 use Rattle.std.proofs.lemmas.Bool.{cond_both, cases_lt, both_ways, and_parts, and_from}
 use Rattle.measure.specs.Algebra.{Algebra, Row, Laws, Own, NotAbove}
 use Rattle.sets.specs.Sets.{Rows, total, in_band}
 use Rattle.sets.specs.Spaces.{Space, same}
-use Rattle.sets.proofs.Forms.{then, at, lifted, topped, count_from, count_down, least, greatest, widths, sweep, choices, raise, lower, pass, squeeze}
+use Rattle.sets.proofs.Forms.{at, lifted, topped, count_from, count_down, least, greatest, widths, sweep, choices, raise, lower, pass, squeeze}
 use Rattle.sets.proofs.Vectors.{Below, Rising, Upto, below_refl, below_trans, below_antisym, below_at, below_length, below_upto, rising_at, lifted-rising, lifted-least, lifted_more, lifted_same, at_lifted, topped-rising, topped_most, topped_less, topped_same, at_topped}
 use Rattle.sets.proofs.Totals.{total-own, total-climbs}
 use Rattle.sets.proofs.Choices.{Least, least_is, Greatest, greatest_is, count_from_below, count_down_below, same_true, same_self, widths_level}
@@ -50,7 +50,7 @@ module _ (S : List ℕ → Type 0) (n m : ℕ) where
     keeps = λ x r i z. k.keeps x r (h.keeps x r i z) z;
   }
 
-  tight_then : (s : Space) (q : Option Space) (f : Space → Option Space) → Tight S n m s q → ((t : Space) → Valid n m t → Tight S n m t (f t)) → Tight S n m s (then q f)
+  tight_then : (s : Space) (q : Option Space) (f : Space → Option Space) → Tight S n m s q → ((t : Space) → Valid n m t → Tight S n m t (f t)) → Tight S n m s (option_and_then f q)
   tight_then s None f h k = h
   tight_then s (Some t) f h k = tight_from s t (f t) h (k t h.valid)
 
@@ -62,7 +62,7 @@ module _ (S : List ℕ → Type 0) (n m : ℕ) where
   both_tighter s t h k = space_same t s (below_antisym t.lo s.lo k.up h.up) (below_antisym t.hi s.hi h.down k.down)
 
   -- where the second step comes back, neither moves
-  then_fixed : (s : Space) (q : Option Space) (f : Space → Option Space) → Tight S n m s q → ((t : Space) → Valid n m t → Tight S n m t (f t)) → then q f ≡ Some s → (q ≡ Some s) × (f s ≡ Some s)
+  then_fixed : (s : Space) (q : Option Space) (f : Space → Option Space) → Tight S n m s q → ((t : Space) → Valid n m t → Tight S n m t (f t)) → option_and_then f q ≡ Some s → (q ≡ Some s) × (f s ≡ Some s)
   then_fixed s None f h k e = cc
   then_fixed s (Some t) f h k e =
       let back : Tighter S n m t s = subst (Tight S n m t) e (k t h.valid) in
@@ -125,7 +125,7 @@ module _ (a : Algebra) (laws : Laws a) (xs : List Row) (rows : Rows a xs) (low h
   unfolding reaches
   raise_tight s i v l = go (least (reaches s i) (at s.lo i) (choices s i)) (least_is (reaches s i) (at s.lo i) (choices s i))
     where
-      go : (q : Option ℕ) → Least (reaches s i) (at s.lo i) (choices s i) q → Tight Solved (length xs) m s (then q (λ w. Some (record { lo = lifted s.lo i w; hi = s.hi })))
+      go : (q : Option ℕ) → Least (reaches s i) (at s.lo i) (choices s i) q → Tight Solved (length xs) m s (option_and_then (λ w. Some (record { lo = lifted s.lo i w; hi = s.hi })) q)
       go None h = λ x r ins z. h (at x i) (below_at s.lo x i ins.0) (omega (arith, below_at x s.hi i ins.1, at_below s i v)) (reaches_at s i v l x r ins z)
       go (Some w) h =
           let le : at s.lo i ≤ w = h.0 in
@@ -147,7 +147,7 @@ module _ (a : Algebra) (laws : Laws a) (xs : List Row) (rows : Rows a xs) (low h
   unfolding stays
   lower_tight s i v l = go (greatest (stays s i) (at s.lo i) (choices s i)) (greatest_is (stays s i) (at s.lo i) (choices s i))
     where
-      go : (q : Option ℕ) → Greatest (stays s i) (at s.lo i) (choices s i) q → Tight Solved (length xs) m s (then q (λ w. Some (record { lo = s.lo; hi = topped s.hi i w })))
+      go : (q : Option ℕ) → Greatest (stays s i) (at s.lo i) (choices s i) q → Tight Solved (length xs) m s (option_and_then (λ w. Some (record { lo = s.lo; hi = topped s.hi i w })) q)
       go None h = λ x r ins z. h (at x i) (below_at s.lo x i ins.0) (omega (arith, below_at x s.hi i ins.1, at_below s i v)) (stays_at s i v l x r ins z)
       go (Some w) h =
           let le : at s.lo i ≤ w = h.0 in
@@ -199,7 +199,7 @@ module _ (a : Algebra) (laws : Laws a) (xs : List Row) (rows : Rows a xs) (low h
       go (Some t) e h = subst (λ u. pass a xs low high u ≡ Some t) (fixed_level s t v h e (omega arith)) e
   squeeze_fixed (suc n) s v l = go (pass a xs low high s) refl (pass_tight s v) (squeeze_fixed n)
     where
-      go : (q : Option Space) → pass a xs low high s ≡ q → Tight Solved (length xs) m s q → ((t : Space) → Valid (length xs) m t → widths t.lo t.hi ≤ n → Fixed a xs low high (squeeze a xs low high n t)) → Fixed a xs low high (then q (λ t. cond (same s.lo t.lo && same s.hi t.hi) (Some t) (squeeze a xs low high n t)))
+      go : (q : Option Space) → pass a xs low high s ≡ q → Tight Solved (length xs) m s q → ((t : Space) → Valid (length xs) m t → widths t.lo t.hi ≤ n → Fixed a xs low high (squeeze a xs low high n t)) → Fixed a xs low high (option_and_then (λ t. cond (same s.lo t.lo && same s.hi t.hi) (Some t) (squeeze a xs low high n t)) q)
       go None e h ih = tt
       go (Some t) e h ih =
           cond_both (same s.lo t.lo && same s.hi t.hi) (Some t) (squeeze a xs low high n t) (Fixed a xs low high)
@@ -214,7 +214,7 @@ module _ (a : Algebra) (laws : Laws a) (xs : List Row) (rows : Rows a xs) (low h
   unfolding reaches
   raise_fixed s i v l e = go (least (reaches s i) (at s.lo i) (choices s i)) (least_is (reaches s i) (at s.lo i) (choices s i)) e
     where
-      go : (q : Option ℕ) → Least (reaches s i) (at s.lo i) (choices s i) q → ◌≡◌ {A = Option Space} (then q (λ w. Some (record { lo = lifted s.lo i w; hi = s.hi }))) (Some s) → reaches s i (at s.lo i) ≡ true
+      go : (q : Option ℕ) → Least (reaches s i) (at s.lo i) (choices s i) q → ◌≡◌ {A = Option Space} (option_and_then (λ w. Some (record { lo = lifted s.lo i w; hi = s.hi })) q) (Some s) → reaches s i (at s.lo i) ≡ true
       go None h f = cc
       go (Some w) h f =
           let p : lifted s.lo i w ≡ s.lo = cc in
@@ -225,7 +225,7 @@ module _ (a : Algebra) (laws : Laws a) (xs : List Row) (rows : Rows a xs) (low h
   unfolding stays
   lower_fixed s i v l e = go (greatest (stays s i) (at s.lo i) (choices s i)) (greatest_is (stays s i) (at s.lo i) (choices s i)) e
     where
-      go : (q : Option ℕ) → Greatest (stays s i) (at s.lo i) (choices s i) q → ◌≡◌ {A = Option Space} (then q (λ w. Some (record { lo = s.lo; hi = topped s.hi i w }))) (Some s) → stays s i (at s.hi i) ≡ true
+      go : (q : Option ℕ) → Greatest (stays s i) (at s.lo i) (choices s i) q → ◌≡◌ {A = Option Space} (option_and_then (λ w. Some (record { lo = s.lo; hi = topped s.hi i w })) q) (Some s) → stays s i (at s.hi i) ≡ true
       go None h f = cc
       go (Some w) h f =
           let p : topped s.hi i w ≡ s.hi = cc in
