@@ -1,11 +1,9 @@
 -- What `least`, `greatest`, `count_from`, `count_down`, `same` and `widths` answer.
-use Rattle.std.proofs.Common.{◌≡◌, ℕ, zero, suc, ◌+◌, ◌<◌, ◌≤◌, Bool, true, false, eqb, List, [], ◌∷◌, Some, None, Option, refl, ap, ◌∙◌, add-one, arith}
+use Rattle.std.proofs.Common.{◌≡◌, ℕ, zero, suc, ◌+◌, ◌<◌, ◌≤◌, Bool, true, false, List, [], ◌∷◌, Some, None, Option, refl, ap, ◌∙◌, add-one, arith}
 use Rattle.std.specs.List.{range_with_len, AllByRecursion}
 use Rattle.std.proofs.ByRecursion.{All-weaker}
-use Rattle.std.proofs.lemmas.Bool.Decides.{nat_tests}
-use Rattle.std.proofs.lemmas.Bool.{cond_both, eq-eqb, and_from}
+use Rattle.std.proofs.lemmas.Bool.{cond_both}
 use Rattle.sets.proofs.Forms.{least, greatest, count_from, count_down, widths}
-use Rattle.sets.specs.Spaces.{same}
 use Rattle.sets.proofs.Vectors.{Below}
 
 -- what `least` tells: none passes, or w is the least that does
@@ -47,16 +45,6 @@ count_from_below i (suc n) = (omega arith, All-weaker (λ j. j < suc i + n) (λ 
 pub count_down_below : (n : ℕ) → AllByRecursion (λ j. j < n) (count_down n)
 count_down_below zero = tt
 count_down_below (suc n) = (omega arith, All-weaker (λ j. j < n) (λ j. j < suc n) (λ j h. omega arith) (count_down n) (count_down_below n))
-
-pub same_true : (s t : List ℕ) → same s t ≡ true → s ≡ t
-same_true [] [] e = refl
-same_true [] (y ∷ t) e = cc
-same_true (x ∷ s) [] e = cc
-same_true (x ∷ s) (y ∷ t) e = grind (arith, nat_tests, same_true s t)
-
-pub same_self : (s : List ℕ) → same s s ≡ true
-same_self [] = refl
-same_self (x ∷ s) = and_from (eqb x x) (same s s) (eq-eqb x x refl) (same_self s)
 
 pub widths_less : (lo lo' hi' hi : List ℕ) → Below lo lo' → Below lo' hi' → Below hi' hi → widths lo' hi' ≤ widths lo hi
 widths_less [] [] [] [] f g h = omega arith

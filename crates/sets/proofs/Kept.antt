@@ -3,7 +3,7 @@ use Rattle.std.proofs.Common.{◌≡◌, ℕ, zero, suc, ◌+◌, ◌*◌, ◌<�
 use Rattle.std.specs.List.{flat_map, AllByRecursion}
 use Rattle.std.proofs.ByRecursion.{All-weaker}
 use Rattle.std.proofs.lemmas.Bool.Decides.{same_from_decides, nat_tests}
-use Rattle.std.proofs.lemmas.Bool.{false_from_ne_true, cond-true, cond-false, and_from, and_parts, eqb-true, le-leb, leb-true}
+use Rattle.std.proofs.lemmas.Bool.{false_from_ne_true, and_from, and_parts, eqb-true, le-leb, leb-true}
 use Rattle.sets.proofs.Forms.{count_from}
 use Rattle.sets.proofs.Members.{In, Sorted}
 
@@ -11,12 +11,6 @@ pub bool_same : (b c : Bool) → (b ≡ true → c ≡ true) → (c ≡ true →
 bool_same b c f g = same_from_decides {P = c ≡ true} b c (f, g) (λ e. e, λ e. e)
 
 module _ {X : Type 0} where
-  kept_yes : (p : X → Bool) (x : X) (xs : List X) → p x ≡ true → filter p (x ∷ xs) ≡ x ∷ filter p xs
-  kept_yes p x xs e = cond-true (p x) (x ∷ filter p xs) (filter p xs) e
-
-  kept_no : (p : X → Bool) (x : X) (xs : List X) → p x ≡ false → filter p (x ∷ xs) ≡ filter p xs
-  kept_no p x xs e = cond-false (p x) (x ∷ filter p xs) (filter p xs) e
-
   pub kept_same : (p q : X → Bool) (xs : List X) → AllByRecursion (λ x. p x ≡ q x) xs → filter p xs ≡ filter q xs
   kept_same p q [] a = refl
   kept_same p q (x ∷ xs) a = cc (kept_same p q xs a.1)

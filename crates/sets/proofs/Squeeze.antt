@@ -1,6 +1,7 @@
 -- Squeezing loses no set of the band, keeps a space a space, and ends where a settled space is in the band.
 use Rattle.std.proofs.Common.{◌≡◌, ℕ, zero, suc, ◌+◌, ◌<◌, ◌≤◌, Bool, true, cond, ◌&&◌, List, [], ◌∷◌, length, Some, None, Option, option_and_then, sym, refl, ap, ◌∙◌, subst, inl, inr, arith}
 use Rattle.std.specs.List.{AllByRecursion}
+use Rattle.std.specs.Cmp.Lexicographic.{bytes_decides}
 use Rattle.std.proofs.lemmas.Bool.{cond_both, cases_lt, both_ways, and_parts, and_from}
 use Rattle.measure.specs.Algebra.{Algebra, Row, Laws, Own, NotAbove}
 use Rattle.sets.specs.Sets.{Rows, total, in_band}
@@ -8,7 +9,7 @@ use Rattle.sets.specs.Spaces.{Space, same}
 use Rattle.sets.proofs.Forms.{at, lifted, topped, count_from, count_down, least, greatest, widths, sweep, choices, raise, lower, pass, squeeze}
 use Rattle.sets.proofs.Vectors.{Below, Rising, Upto, below_refl, below_trans, below_antisym, below_at, below_length, below_upto, rising_at, lifted-rising, lifted-least, lifted_more, lifted_same, at_lifted, topped-rising, topped_most, topped_less, topped_same, at_topped}
 use Rattle.sets.proofs.Totals.{total-own, total-climbs}
-use Rattle.sets.proofs.Choices.{Least, least_is, Greatest, greatest_is, count_from_below, count_down_below, same_true, same_self, widths_level}
+use Rattle.sets.proofs.Choices.{Least, least_is, Greatest, greatest_is, count_from_below, count_down_below, widths_level}
 
 -- a space of sets of m of n places
 pub record Valid (n m : ℕ) (s : Space) : Type 0 where
@@ -203,11 +204,11 @@ module _ (a : Algebra) (laws : Laws a) (xs : List Row) (rows : Rows a xs) (low h
       go None e h ih = tt
       go (Some t) e h ih =
           cond_both (same s.lo t.lo && same s.hi t.hi) (Some t) (squeeze a xs low high n t) (Fixed a xs low high)
-          (λ f. let p = and_parts (same s.lo t.lo) (same s.hi t.hi) f in subst (λ u. pass a xs low high u ≡ Some t) (space_same s t (same_true s.lo t.lo p.0) (same_true s.hi t.hi p.1)) e)
+          (λ f. let p = and_parts (same s.lo t.lo) (same s.hi t.hi) f in subst (λ u. pass a xs low high u ≡ Some t) (space_same s t ((bytes_decides s.lo t.lo).0 p.0) ((bytes_decides s.hi t.hi).0 p.1)) e)
           (λ f. elim (cases_lt (widths t.lo t.hi) (widths s.lo s.hi)) [
             | inl k ↦ ih t h.valid (omega arith)
             | inr k ↦ absurd (both_ways (same s.lo t.lo && same s.hi t.hi) f
-                (subst (λ u. (same s.lo u.lo && same s.hi u.hi) ≡ true) (fixed_level s t v h e k) (and_from (same s.lo s.lo) (same s.hi s.hi) (same_self s.lo) (same_self s.hi))))
+                (subst (λ u. (same s.lo u.lo && same s.hi u.hi) ≡ true) (fixed_level s t v h e k) (and_from (same s.lo s.lo) (same s.hi s.hi) ((bytes_decides s.lo s.lo).1 refl) ((bytes_decides s.hi s.hi).1 refl))))
           ])
 
   raise_fixed : (s : Space) (i : ℕ) → Valid (length xs) m s → i < m → raise a xs low high s i ≡ Some s → reaches s i (at s.lo i) ≡ true

@@ -1,5 +1,6 @@
 -- A trace tells the solutions, in order, and is less than twice as long as there are sets.
 use Rattle.std.proofs.Common.{◌≡◌, ℕ, zero, suc, ◌+◌, ◌-◌, ◌*◌, ◌<◌, ◌≤◌, Bool, true, false, ◌&&◌, eqb, leb, List, [], ◌∷◌, ◌++◌, length, Some, None, filter, Option, sym, refl, ap, ◌∙◌, subst, arith}
+use Rattle.std.specs.Cmp.Lexicographic.{pointwise}
 use Rattle.std.specs.List.{flat_map, AllByRecursion}
 use Rattle.std.proofs.ByRecursion.{All-weaker}
 use Rattle.std.proofs.lemmas.List.Sums.{length-filter, count_by-le-length}
@@ -19,10 +20,7 @@ use Rattle.sets.proofs.Listed.{in_some, kept_in}
 
 -- the test of Below
 abbrev leqs : List ℕ → List ℕ → Bool
-leqs [] [] = true
-leqs [] (y ∷ t) = false
-leqs (x ∷ s) [] = false
-leqs (x ∷ s) (y ∷ t) = leb x y && leqs s t
+leqs s t = pointwise leb s t
 
 leqs_true : (s t : List ℕ) → leqs s t ≡ true → Below s t
 leqs_true [] [] e = tt
