@@ -8,7 +8,7 @@ use Rattle.sets.specs.Sets.{total}
 use Rattle.sets.specs.Spaces.{Space, space, same}
 use Rattle.sets.specs.Trace.{Trace}
 
--- i, i + 1, ..., n of them
+-- i, i + 1, ..., n of them. Kept: `range_with_len` steps by i + 1, which a recursion does not compute to suc i.
 abbrev pub count_from : ℕ → ℕ → List ℕ
 count_from i zero = []
 count_from i (suc n) = i ∷ count_from (suc i) n

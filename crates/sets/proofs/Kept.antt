@@ -11,6 +11,7 @@ pub bool_same : (b c : Bool) → (b ≡ true → c ≡ true) → (c ≡ true →
 bool_same b c f g = same_from_decides {P = c ≡ true} b c (f, g) (λ e. e, λ e. e)
 
 module _ {X : Type 0} where
+  -- Kept: the library has these two in std_collections alone, which this crate cannot name.
   pub kept_same : (p q : X → Bool) (xs : List X) → AllByRecursion (λ x. p x ≡ q x) xs → filter p xs ≡ filter q xs
   kept_same p q [] a = refl
   kept_same p q (x ∷ xs) a = cc (kept_same p q xs a.1)
