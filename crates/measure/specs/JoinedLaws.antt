@@ -122,5 +122,5 @@ module _ {a b : Algebra} (la : Laws a) (lb : Laws b) where
         (lb.plus_keeps (right x) (right y) (right z) (own-right x o) (own-right y p) (own-right z q) (under_right x y h));
   }
 
--- the sum and the difference of two values side by side
-pub ruleset joined_steps = (plus-joined, minus-joined)
+-- the sum of two values side by side
+pub ruleset joined_steps = (plus-joined)

@@ -122,7 +122,6 @@ impl<A: Measure, B: Measure> Measure for Pair<A, B> {
         }
     }
 
-    #[tactic(auto, using(crate::specs::JoinedLaws::joined_steps))]
     fn minus(self, other: Pair<A, B>) -> Pair<A, B> {
         Pair {
             first: self.first.minus(other.first),
