@@ -1,5 +1,5 @@
 -- The laws of two kinds side by side, from the laws of each.
-use Rattle.std.specs.Prelude.{◌≡◌, Bool, ◌&&◌, ◌++◌, length, take, drop}
+use Rattle.std.specs.Prelude.{◌≡◌, ◌&&◌, ◌++◌, length, take, drop}
 use Rattle.std.proofs.Common.{sym, ap, ◌∙◌, length-append, take-append-drop, take_at, drop_at}
 use Rattle.std.proofs.lemmas.Bool.{and_parts, and_from}
 use Rattle.measure.specs.Algebra.{Row, Algebra, Laws, Own, NotAbove, joined}
@@ -37,12 +37,11 @@ module _ {a b : Algebra} (la : Laws a) (lb : Laws b) where
   pub reverse-joined : (p q : Row) → Own a p → (joined a b).reverse (p ++ q) ≡ a.reverse p ++ b.reverse q
   reverse-joined p q o = cc (left-joined p q o, right-joined p q o)
 
+  pub minus-joined : (p q p' q' : Row) → Own a p → Own a p' → (joined a b).plus (p ++ q) ((joined a b).reverse (p' ++ q')) ≡ a.plus p (a.reverse p') ++ b.plus q (b.reverse q')
+  minus-joined p q p' q' o o' = ap ((joined a b).plus (p ++ q)) (reverse-joined p' q' o') ∙ plus-joined p q (a.reverse p') (b.reverse q') o (la.reverse_own p' o')
+
   pub under_joined : (p q p' q' : Row) → Own a p → Own a p' → (joined a b).not_above (p ++ q) (p' ++ q') ≡ (a.not_above p p' && b.not_above q q')
   under_joined p q p' q' o o' = cc (left-joined p q o, left-joined p' q' o', right-joined p q o, right-joined p' q' o')
-
-  -- the same, once the first parts are compared
-  pub under_when : (p q p' q' : Row) → Own a p → Own a p' → (t : Bool) → t ≡ a.not_above p p' → (t && b.not_above q q') ≡ (joined a b).not_above (p ++ q) (p' ++ q')
-  under_when p q p' q' o o' t e = ap (λ s. s && b.not_above q q') e ∙ sym (under_joined p q p' q' o o')
 
   both_under : (x y : Row) → NotAbove a (left x) (left y) → NotAbove b (right x) (right y) → NotAbove (joined a b) x y
   both_under x y h k = and_from (a.not_above (left x) (left y)) (b.not_above (right x) (right y)) h k
@@ -122,3 +121,6 @@ module _ {a b : Algebra} (la : Laws a) (lb : Laws b) where
         (la.plus_keeps (left x) (left y) (left z) ox oy oz (under_left x y h))
         (lb.plus_keeps (right x) (right y) (right z) (own-right x o) (own-right y p) (own-right z q) (under_right x y h));
   }
+
+-- the sum of two values side by side
+pub ruleset joined_steps = (plus-joined)

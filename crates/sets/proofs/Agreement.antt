@@ -1,25 +1,23 @@
 -- The definitions of a search come to the same as their second form, whose positions count from 0 and push their
 -- neighbours along; so what is proved of that form holds of every trace.
-use Rattle.std.proofs.Common.{◌≡◌, ℕ, zero, suc, ◌+◌, ◌-◌, ◌*◌, ◌<◌, ◌≤◌, min, max, Bool, true, false, cond, ◌&&◌, eqb, ltb, leb, List, [], ◌∷◌, ◌++◌, map, length, get_or, set, Some, None, sum, Option, sym, refl, ap, ◌∙◌, ap₂, inl, inr, add-one, arith}
+use Rattle.std.proofs.Common.{◌≡◌, ℕ, zero, suc, ◌+◌, ◌-◌, ◌*◌, ◌<◌, ◌≤◌, min, max, Bool, cond, ◌&&◌, eqb, ltb, List, [], ◌∷◌, ◌++◌, map, length, get_or, set, Some, None, sum, Option, option_and_then, sym, refl, ap, ◌∙◌, ap₂, add-one, arith}
 use mathlib.Core.Path.{fun_ext}
-use lib.Dec.{leb-suc-suc}
 use Rattle.std.specs.List.{range_with_len, flat_map}
 use Rattle.std.proofs.lemmas.List.{append_assoc, get_or_at, length_push, length-set}
 use Rattle.std.proofs.lemmas.List.Sums.{sum_by-cons}
-use Rattle.std.proofs.lemmas.Bool.{cases_lt, cond-true, cond-false, lt-ltb, le-ltb, eq-eqb, ne_eqb, lt-leb}
+use Rattle.std.proofs.lemmas.Bool.Decides.{nat_tests}
 use Rattle.measure.specs.Algebra.{Algebra, Row, Laws, Own}
 use Rattle.sets.specs.Sets.{Rows, total, sets, solutions}
 use Rattle.sets.specs.Spaces
 use Rattle.sets.specs.Spaces.{Space, space, same}
 use Rattle.sets.specs.Trace
 use Rattle.sets.specs.Trace.{somes}
-use Rattle.sets.proofs.Forms.{then, at, above, lifted, topped, child, choices, count_from, count_down, least, greatest, sweep, widths, open_at, split, examined, raise, lower, pass, squeeze, squeezed, explore, trace}
+use Rattle.sets.proofs.Forms.{at, above, lifted, topped, child, choices, count_from, count_down, least, greatest, sweep, widths, open_at, split, examined, raise, lower, pass, squeeze, squeezed, explore, trace}
 use Rattle.sets.proofs.Vectors.{Below, Rising, rising_weaker, rising_at, below_length, above_same}
 use Rattle.sets.proofs.Choices.{Least, least_is, counting_is}
 use Rattle.sets.proofs.Squeeze.{Valid, Tight, Solves, raises_tight, pass_tight, squeeze_tight}
 use Rattle.sets.proofs.Opens.{Opens, open_is}
-use Rattle.sets.proofs.Kept.{joined_same}
-use Rattle.sets.proofs.Trace.{child_valid, values, start_valid, trace_finds, trace_counts}
+use Rattle.sets.proofs.Trace.{child_valid, joined_values, start_valid, trace_finds, trace_counts}
 use Rattle.sets.proofs.Steps.{after, before, raise_at, lower_at, raise_sweeps, lower_sweeps, topped-settled}
 
 -- a list made by index
@@ -39,12 +37,12 @@ by_index g k p (x ∷ s) e =
 each_same : (g h : ℕ → ℕ → ℕ) (k : ℕ) (s : List ℕ) → ((j x : ℕ) → k ≤ j → g j x ≡ h j x) → each_with g k s ≡ each_with h k s
 unfolding each_with
 each_same g h k [] f = refl
-each_same g h k (x ∷ s) f = ap₂ (λ z zs. z ∷ zs) (f k x (omega arith)) (each_same g h (k + 1) s (λ j y l. f j y (omega arith)))
+each_same g h k (x ∷ s) f = cc (f k x (omega arith), each_same g h (k + 1) s (λ j y l. f j y (omega arith)))
 
 each_id : (k : ℕ) (s : List ℕ) → each_with (λ j x. x) k s ≡ s
 unfolding each_with
 each_id k [] = refl
-each_id k (x ∷ s) = ap (λ t. x ∷ t) (each_id (k + 1) s)
+each_id k (x ∷ s) = cc (each_id (k + 1) s)
 
 -- the place of position j in the highest set with position i at v, x being its highest place
 raised_one : ℕ → ℕ → ℕ → ℕ → ℕ
@@ -54,43 +52,27 @@ raised_each : (i v k d : ℕ) (s : List ℕ) → k + d ≡ i → each_with (rais
 unfolding each_with raised_one
 raised_each i v k d [] e = refl
 raised_each i v k zero (x ∷ s) e =
-    ap₂ (λ z zs. z ∷ zs)
-    (cond-false (ltb k i) (min (v - (i - k)) x) (cond (eqb k i) v x) (le-ltb k i (omega arith)) ∙ cond-true (eqb k i) v x (eq-eqb k i (omega arith)))
-    (each_same (raised_one i v) (λ j y. y) (k + 1) s (λ j y l. cond-false (ltb j i) (min (v - (i - j)) y) (cond (eqb j i) v y) (le-ltb j i (omega arith)) ∙ cond-false (eqb j i) v y (ne_eqb j i (λ q. omega arith))) ∙ each_id (k + 1) s)
-raised_each i v k (suc d) (x ∷ s) e =
-    ap₂ (λ z zs. z ∷ zs)
-    (cond-true (ltb k i) (min (v - (i - k)) x) (cond (eqb k i) v x) (lt-ltb k i (omega arith)) ∙ (let z : min (v - (i - k)) x ≡ min (v - suc d) x = omega arith in z))
-    (raised_each i v (k + 1) d s (omega arith))
+    let past : each_with (raised_one i v) (k + 1) s ≡ s = each_same (raised_one i v) (λ j y. y) (k + 1) s (λ j y l. grind (arith, nat_tests)) ∙ each_id (k + 1) s in
+    grind (arith, nat_tests, past)
+raised_each i v k (suc d) (x ∷ s) e = grind (arith, nat_tests, raised_each i v (k + 1) d s (omega arith))
 
 -- the place of position j in the lowest set with position i at v, x being its lowest place
 lowered_one : ℕ → ℕ → ℕ → ℕ → ℕ
 lowered_one i v j x = cond (ltb j i) x (cond (eqb j i) v (max (v + (j - i)) x))
 
 above_loose : (u x : ℕ) (s : List ℕ) → Rising x s → above (suc u) s ≡ above (max (suc u) x) s
-above_loose u x s r = elim (cases_lt (suc u) x) [
-  | inl l ↦ above_same (suc u) s (rising_weaker x (suc u) s (omega arith) r) ∙ sym (above_same x s r) ∙ ap (λ w. above w s) (let z : x ≡ max (suc u) x = omega arith in z)
-  | inr l ↦ ap (λ w. above w s) (let z : suc u ≡ max (suc u) x = omega arith in z)
-]
+above_loose u x s r = grind (arith, above_same (suc u) s, rising_weaker x (suc u) s, above_same x s r)
 
 lowered_past : (i v k u b : ℕ) (s : List ℕ) → i < k → v + (k - i) ≡ suc u → Rising b s → each_with (lowered_one i v) k s ≡ above u s
 unfolding each_with lowered_one
 lowered_past i v k u b [] l e r = refl
-lowered_past i v k u b (x ∷ s) l e r =
-    ap₂ (λ z zs. z ∷ zs)
-    (cond-false (ltb k i) x (cond (eqb k i) v (max (v + (k - i)) x)) (le-ltb k i (omega arith)) ∙ cond-false (eqb k i) v (max (v + (k - i)) x) (ne_eqb k i (λ q. omega arith)) ∙ ap (λ w. max w x) e)
-    (lowered_past i v (k + 1) (suc u) x s (omega arith) (omega arith) r.1 ∙ above_loose u x s r.1)
+lowered_past i v k u b (x ∷ s) l e r = grind (arith, nat_tests, lowered_past i v (k + 1) (suc u) x s (omega arith) (omega arith) r.1, above_loose u x s r.1)
 
 lowered_each : (i v k d b : ℕ) (s : List ℕ) → k + d ≡ i → Rising b s → each_with (lowered_one i v) k s ≡ lifted s d v
 unfolding each_with lowered_one
 lowered_each i v k d b [] e r = refl
-lowered_each i v k zero b (x ∷ s) e r =
-    ap₂ (λ z zs. z ∷ zs)
-    (cond-false (ltb k i) x (cond (eqb k i) v (max (v + (k - i)) x)) (le-ltb k i (omega arith)) ∙ cond-true (eqb k i) v (max (v + (k - i)) x) (eq-eqb k i (omega arith)))
-    (lowered_past i v (k + 1) v x s (omega arith) (omega arith) r.1)
-lowered_each i v k (suc d) b (x ∷ s) e r =
-    ap₂ (λ z zs. z ∷ zs)
-    (cond-true (ltb k i) x (cond (eqb k i) v (max (v + (k - i)) x)) (lt-ltb k i (omega arith)))
-    (lowered_each i v (k + 1) d x s (omega arith) r.1)
+lowered_each i v k zero b (x ∷ s) e r = grind (arith, nat_tests, lowered_past i v (k + 1) v x s (omega arith) (omega arith) r.1)
+lowered_each i v k (suc d) b (x ∷ s) e r = grind (arith, nat_tests, lowered_each i v (k + 1) d x s (omega arith) r.1)
 
 least_same : (f : ℕ → Bool) (v n : ℕ) → Spaces.least f v n ≡ least f v n
 least_same f v zero = refl
@@ -106,9 +88,8 @@ before_is : (hi : List ℕ) (i : ℕ) → i < length hi → cond (ltb (suc i) (l
 before_is [] i l = absurd (omega arith)
 before_is (h ∷ []) zero l = refl
 before_is (h ∷ []) (suc i) l = absurd (omega arith)
-before_is (h ∷ k ∷ hi) zero l = cond-true (ltb 1 (suc (suc (length hi)))) (min h (k - 1)) h (lt-ltb 1 (suc (suc (length hi))) (omega arith))
-before_is (h ∷ k ∷ hi) (suc i) l =
-    ap (λ b. cond b (min (get_or (k ∷ hi) i 0) (get_or (k ∷ hi) (suc i) 0 - 1)) (get_or (k ∷ hi) i 0)) (leb-suc-suc (suc (suc i)) (length (k ∷ hi))) ∙ before_is (k ∷ hi) i (omega arith)
+before_is (h ∷ k ∷ hi) zero l = grind (arith, nat_tests)
+before_is (h ∷ k ∷ hi) (suc i) l = grind (arith, nat_tests, before_is (k ∷ hi) i (omega arith))
 
 -- `concat_map` is the library's `flat_map`
 concat_is : {A B : Type 0} (f : A → List B) (ys : List A) → Trace.concat_map f ys ≡ flat_map f ys
@@ -125,19 +106,14 @@ widths_add (l ∷ lo) (h ∷ hi) b = omega (arith, sum_by-cons (λ x. x) l lo, s
 widths_same : (lo hi : List ℕ) → Below lo hi → Spaces.widths lo hi ≡ widths lo hi
 widths_same lo hi b = omega (arith, widths_add lo hi b)
 
-open_shift : (i : ℕ) (q : Option ℕ) → then q (λ j. Some (i + 1 + j)) ≡ then (then q (λ j. Some (suc j))) (λ j. Some (i + j))
+open_shift : (i : ℕ) (q : Option ℕ) → option_and_then (λ j. Some (i + 1 + j)) q ≡ option_and_then (λ j. Some (i + j)) (option_and_then (λ j. Some (suc j)) q)
 open_shift i None = refl
 open_shift i (Some j) = ap Some (let z : i + 1 + j ≡ i + suc j = omega arith in z)
 
-open_same : (i : ℕ) (lo hi : List ℕ) → Spaces.open_at i lo hi ≡ then (open_at lo hi) (λ j. Some (i + j))
+open_same : (i : ℕ) (lo hi : List ℕ) → Spaces.open_at i lo hi ≡ option_and_then (λ j. Some (i + j)) (open_at lo hi)
 open_same i [] hi = refl
 open_same i (l ∷ lo) [] = refl
-open_same i (l ∷ lo) (h ∷ hi) = go (ltb l h) (open_same (i + 1) lo hi)
-  where
-    go : (b : Bool) → Spaces.open_at (i + 1) lo hi ≡ then (open_at lo hi) (λ j. Some (i + 1 + j)) →
-        cond b (Some i) (Spaces.open_at (i + 1) lo hi) ≡ then (cond b (Some 0) (then (open_at lo hi) (λ j. Some (suc j)))) (λ j. Some (i + j))
-    go true ih = ap Some (let z : i ≡ i + 0 = omega arith in z)
-    go false ih = ih ∙ open_shift i (open_at lo hi)
+open_same i (l ∷ lo) (h ∷ hi) = grind (arith, open_same (i + 1) lo hi, open_shift i (open_at lo hi))
 
 raised_same : (hi : List ℕ) (i v : ℕ) → Spaces.raised hi (suc i) v ≡ topped hi i v
 unfolding raised_one
@@ -153,11 +129,7 @@ at_same s i = ap (λ k. get_or s k 0) (let z : suc i - 1 ≡ i = omega arith in 
 
 from_same : (lo : List ℕ) (i : ℕ) → 1 ≤ at lo 0 → Spaces.from lo (suc i) ≡ max (at lo i) (after lo i)
 from_same lo zero h = omega arith
-from_same lo (suc i) h =
-    ap₂ max (at_same lo (suc i)) (cond-false (leb (suc (suc i)) 1) 0 (Spaces.at lo (suc (suc i) - 1) + 1) (lt-leb (suc (suc i)) 1 (omega arith)) ∙ f)
-  where
-    f : Spaces.at lo (suc (suc i) - 1) + 1 ≡ suc (at lo i)
-    f = ap (λ k. get_or lo k 0 + 1) (let z : suc (suc i) - 1 - 1 ≡ i = omega arith in z) ∙ add-one (at lo i)
+from_same lo (suc i) h = grind (arith, nat_tests)
 
 upto_same : (hi : List ℕ) (i : ℕ) → i < length hi → Spaces.upto hi (suc i) ≡ before hi i
 upto_same hi i l =
@@ -205,11 +177,11 @@ module _ (a : Algebra) (xs : List Row) (low high : Row) where
 
   -- a list of lowest places as a space
   abbrev with_hi : List ℕ → Option (List ℕ) → Option Space
-  with_hi hi q = then q (λ l. Some (space l hi))
+  with_hi hi q = option_and_then (λ l. Some (space l hi)) q
 
   -- a list of highest places as a space
   abbrev with_lo : List ℕ → Option (List ℕ) → Option Space
-  with_lo lo q = then q (λ h. Some (space lo h))
+  with_lo lo q = option_and_then (λ h. Some (space lo h)) q
 
   -- raising from position j on
   raises_same : (n k j : ℕ) (lo hi : List ℕ) → j ≡ suc k → 1 ≤ at lo 0 → with_hi hi (Spaces.raise_from a xs low hi j n lo) ≡ sweep (raise_at a xs low high) (count_from k n) (space lo hi)
@@ -227,7 +199,7 @@ module _ (a : Algebra) (xs : List Row) (low high : Row) where
 
       go : (q : Option ℕ) → Least f u (suc (at hi k) - u) q → ((v : ℕ) → 1 ≤ v → with_hi hi (Spaces.raise_from a xs low hi (suc k + 1) n (set lo k v)) ≡ sweep (raise_at a xs low high) (count_from (suc k) n) (space (set lo k v) hi)) →
           with_hi hi (elim q as (λ _. Option (List ℕ)) [ None ↦ None | Some v ↦ Spaces.raise_from a xs low hi (suc k + 1) n (set lo (suc k - 1) v) ])
-          ≡ then (then q (λ v. Some (space (set lo k v) hi))) (sweep (raise_at a xs low high) (count_from (suc k) n))
+          ≡ option_and_then (sweep (raise_at a xs low high) (count_from (suc k) n)) (option_and_then (λ v. Some (space (set lo k v) hi)) q)
       go None h ih = refl
       go (Some v) h ih = ap (λ i. with_hi hi (Spaces.raise_from a xs low hi (suc k + 1) n (set lo i v))) (let z : suc k - 1 ≡ k = omega arith in z) ∙ ih v (omega (arith, h.0, after_pos lo k))
 
@@ -240,7 +212,7 @@ module _ (a : Algebra) (xs : List Row) (low high : Row) where
     where
       go : (q : Option ℕ) → ((v : ℕ) → with_lo lo (Spaces.lower_from a xs high lo n (set hi n v)) ≡ sweep (lower_at a xs low high) (count_down n) (space lo (set hi n v))) →
           with_lo lo (elim q as (λ _. Option (List ℕ)) [ None ↦ None | Some v ↦ Spaces.lower_from a xs high lo n (set hi n v) ])
-          ≡ then (then q (λ v. Some (space lo (set hi n v)))) (sweep (lower_at a xs low high) (count_down n))
+          ≡ option_and_then (sweep (lower_at a xs low high) (count_down n)) (option_and_then (λ v. Some (space lo (set hi n v))) q)
       go None ih = refl
       go (Some v) ih = ih v
 
@@ -252,16 +224,9 @@ child_each : (i v k d b : ℕ) (s : List ℕ) → k + d ≡ i → Rising b s →
 unfolding each_with child_one lowered_one
 child_each i v k d b [] e r h = refl
 child_each i v k zero b (x ∷ s) e r h =
-    ap₂ (λ z zs. z ∷ zs)
-    (cond-false (ltb k i) x (max x (v + (k - i))) (le-ltb k i (omega arith)) ∙ (let z : max x (v + (k - i)) ≡ v = omega arith in z))
-    (each_same (child_one i v) (lowered_one i v) (k + 1) s
-    (λ j y l. cond-false (ltb j i) y (max y (v + (j - i))) (le-ltb j i (omega arith)) ∙ (let z : max y (v + (j - i)) ≡ max (v + (j - i)) y = omega arith in z)
-    ∙ sym (cond-false (ltb j i) y (cond (eqb j i) v (max (v + (j - i)) y)) (le-ltb j i (omega arith)) ∙ cond-false (eqb j i) v (max (v + (j - i)) y) (ne_eqb j i (λ q. omega arith))))
-    ∙ lowered_past i v (k + 1) v x s (omega arith) (omega arith) r.1)
-child_each i v k (suc d) b (x ∷ s) e r h =
-    ap₂ (λ z zs. z ∷ zs)
-    (cond-true (ltb k i) x (max x (v + (k - i))) (lt-ltb k i (omega arith)))
-    (child_each i v (k + 1) d x s (omega arith) r.1 h)
+    let past : each_with (child_one i v) (k + 1) s ≡ above v s = each_same (child_one i v) (lowered_one i v) (k + 1) s (λ j y l. grind (arith, nat_tests)) ∙ lowered_past i v (k + 1) v x s (omega arith) (omega arith) r.1 in
+    grind (arith, nat_tests, past)
+child_each i v k (suc d) b (x ∷ s) e r h = grind (arith, nat_tests, child_each i v (k + 1) d x s (omega arith) r.1 h)
 
 module _ (a : Algebra) (laws : Laws a) (xs : List Row) (rows : Rows a xs) (low high : Row) (low_own : Own a low) (high_own : Own a high) (m : ℕ) (pos : 0 < m) where
   -- a child at the first open position
@@ -279,8 +244,8 @@ module _ (a : Algebra) (laws : Laws a) (xs : List Row) (rows : Rows a xs) (low h
   pub pass_same : (s : Space) → Valid (length xs) m s → Spaces.pass a xs low high s ≡ pass a xs low high s
   pass_same s v =
       parts (Spaces.raise_from a xs low s.hi 1 (length s.hi) s.lo)
-      ∙ ap (λ n. then (with_hi a xs low high s.hi (Spaces.raise_from a xs low s.hi 1 n s.lo)) lowered_all) (sym (below_length s.lo s.hi v.between))
-      ∙ ap (λ q. then q lowered_all) (raises_same a xs low high (length s.lo) 0 1 s.lo s.hi refl first ∙ raise_sweeps a xs low high m s v)
+      ∙ ap (λ n. option_and_then lowered_all (with_hi a xs low high s.hi (Spaces.raise_from a xs low s.hi 1 n s.lo))) (sym (below_length s.lo s.hi v.between))
+      ∙ ap (λ q. option_and_then lowered_all q) (raises_same a xs low high (length s.lo) 0 1 s.lo s.hi refl first ∙ raise_sweeps a xs low high m s v)
       ∙ go (sweep (raise a xs low high) (count_from 0 (length s.lo)) s) (raises_tight a laws xs rows low high low_own high_own m s (length s.lo) v.size v)
     where
       first : 1 ≤ at s.lo 0
@@ -292,11 +257,11 @@ module _ (a : Algebra) (laws : Laws a) (xs : List Row) (rows : Rows a xs) (low h
 
       parts : (q : Option (List ℕ)) →
           (elim q as (λ _. Option Space) [ None ↦ None | Some l ↦ elim (Spaces.lower_from a xs high l (length l) s.hi) as (λ _. Option Space) [ None ↦ None | Some h ↦ Some (space l h) ] ])
-          ≡ then (with_hi a xs low high s.hi q) lowered_all
+          ≡ option_and_then lowered_all (with_hi a xs low high s.hi q)
       parts None = refl
       parts (Some l) = joins l (Spaces.lower_from a xs high l (length l) s.hi)
 
-      go : (q : Option Space) → Tight (Solves a xs low high) (length xs) m s q → then q lowered_all ≡ then q (sweep (lower a xs low high) (count_down (length s.lo)))
+      go : (q : Option Space) → Tight (Solves a xs low high) (length xs) m s q → option_and_then lowered_all q ≡ option_and_then (sweep (lower a xs low high) (count_down (length s.lo))) q
       go None h = refl
       go (Some t) h =
           lowers_same a xs low high (length t.lo) 0 t.lo t.hi h.valid.rising_lo (omega (arith, below_length t.lo t.hi h.valid.between))
@@ -311,7 +276,7 @@ module _ (a : Algebra) (laws : Laws a) (xs : List Row) (rows : Rows a xs) (low h
     where
       go : (q : Option Space) → Tight (Solves a xs low high) (length xs) m s q → ((t : Space) → Valid (length xs) m t → Spaces.squeeze a xs low high n t ≡ squeeze a xs low high n t) →
           (elim q as (λ _. Option Space) [ None ↦ None | Some t ↦ cond (same s.lo t.lo && same s.hi t.hi) (Some t) (Spaces.squeeze a xs low high n t) ])
-          ≡ then q (λ t. cond (same s.lo t.lo && same s.hi t.hi) (Some t) (squeeze a xs low high n t))
+          ≡ option_and_then (λ t. cond (same s.lo t.lo && same s.hi t.hi) (Some t) (squeeze a xs low high n t)) q
       go None h ih = refl
       go (Some t) h ih = ap (cond (same s.lo t.lo && same s.hi t.hi) (Some t)) (ih t h.valid)
 
@@ -337,7 +302,7 @@ module _ (a : Algebra) (laws : Laws a) (xs : List Row) (rows : Rows a xs) (low h
       go None h ih = refl
       go (Some t) h ih = ap (split_from_1 d t) (open_same 1 t.lo t.hi) ∙ part (open_at t.lo t.hi) (open_is t.lo t.hi h.valid.between)
         where
-          part : (q : Option ℕ) → Opens t.lo t.hi q → split_from_1 d t (then q (λ j. Some (1 + j))) ≡ split (explore a xs low high d) t q
+          part : (q : Option ℕ) → Opens t.lo t.hi q → split_from_1 d t (option_and_then (λ j. Some (1 + j)) q) ≡ split (explore a xs low high d) t q
           part None o = refl
           part (Some i) o =
               let il : i < m = omega (arith, o.0, h.valid.size) in
@@ -347,8 +312,8 @@ module _ (a : Algebra) (laws : Laws a) (xs : List Row) (rows : Rows a xs) (low h
               ap (λ ys. None ∷ ys)
               (concat_is f (range_with_len (Spaces.at t.lo (1 + i)) (Spaces.at t.hi (1 + i) + 1 - Spaces.at t.lo (1 + i)))
               ∙ ap (flat_map f) (ap (λ j. range_with_len (get_or t.lo j 0) (get_or t.hi j 0 + 1 - get_or t.lo j 0)) k ∙ counting_is (at t.lo i) (at t.hi i + 1 - at t.lo i) ∙ ap (count_from (at t.lo i)) (let z : at t.hi i + 1 - at t.lo i ≡ suc (at t.hi i) - at t.lo i = omega arith in z))
-              ∙ joined_same f (λ v. explore a xs low high d (child t i v)) (λ v. (at t.lo i ≤ v) × (v ≤ at t.hi i))
-              (λ v b. ap (Trace.explore a xs low high d) (child_same t i v h.valid o b.0) ∙ ih (child t i v) (child_valid (length xs) m t i v h.valid il b.0 b.1)) vs (values t i o.1))
+              ∙ joined_values t i f (λ v. explore a xs low high d (child t i v)) o.1
+              (λ v l k. ap (Trace.explore a xs low high d) (child_same t i v h.valid o l) ∙ ih (child t i v) (child_valid (length xs) m t i v h.valid il l k)))
 
   -- the two forms have one trace
   pub trace_same : m ≤ length xs → Trace.trace a xs low high m ≡ trace a xs low high m

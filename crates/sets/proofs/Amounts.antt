@@ -42,7 +42,7 @@ pub nothing_wide : (k : ℕ) → Wide k (amounts k).nothing
 nothing_wide k = own_wide k (amounts k).nothing (amounts_laws k).nothing_own
 
 -- one column
-le_test : (v w : ℤ) → v ≤ℤ w → le_z v w ≡ true
+pub le_test : (v w : ℤ) → v ≤ℤ w → le_z v w ≡ true
 le_test v w h = grind (arith, ints)
 
 column_plus : (m v w : ℤ) (p q : ℕ) → (v +ℤ m *ℤ pos p) +ℤ (w +ℤ m *ℤ pos q) ≡ (v +ℤ w) +ℤ m *ℤ pos (p + q)
@@ -109,7 +109,7 @@ plus_column (one v) (one w) (suc c) l = absurd (omega arith)
 plus_column (more v a) (more w b) zero l = refl
 plus_column (more v a) (more w b) (suc c) l = plus_column a b c (omega arith)
 
-test_le : (v w : ℤ) → le_z v w ≡ true → v ≤ℤ w
+pub test_le : (v w : ℤ) → le_z v w ≡ true → v ≤ℤ w
 test_le v w h = omega (arith, ints)
 
 -- not above, and not above in each column

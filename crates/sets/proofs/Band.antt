@@ -1,11 +1,10 @@
 -- Where a set's total lies in a band, its complement's lies in the band turned about the total of all entries: so the
 -- complements of the solutions are the solutions of the turned question, back to front.
-use Rattle.std.proofs.Common.{◌≡◌, ℕ, zero, suc, ◌+◌, ◌-◌, ◌≤◌, Bool, true, false, cond, eqb, List, [], ◌∷◌, ◌++◌, map, reverse, length, filter, sym, refl, ap, ◌∙◌, subst, subst₂, inl, inr, arith}
+use Rattle.std.proofs.Common.{◌≡◌, ℕ, zero, suc, ◌+◌, ◌-◌, ◌≤◌, Bool, eqb, List, [], ◌∷◌, map, reverse, length, filter, sym, refl, ap, ◌∙◌, subst, subst₂, inl, inr, arith}
 use mathlib.Core.List.{reverse-cons}
 use Rattle.std.specs.List.{range_with_len, AllByRecursion}
-use Rattle.std.proofs.lemmas.List.Elements.{filter-append}
 use Rattle.std.proofs.ByRecursion.{All-weaker}
-use Rattle.std.proofs.lemmas.List.{append-nil}
+use Rattle.std.proofs.lemmas.Grind.{common_steps}
 use Rattle.std.proofs.lemmas.Bool.{cases_eq, cond_both, and_from, and_parts}
 use Rattle.measure.specs.Algebra.{Algebra, Row, Laws, Own, NotAbove}
 use Rattle.sets.specs.Sets.{Rows, sets, complement, total, at_place, in_band, solutions}
@@ -16,7 +15,7 @@ use Rattle.sets.proofs.Complements.{complement_here, complement_past, complement
 use Rattle.sets.proofs.Totals.{place-own, total-own}
 use Rattle.sets.proofs.Choices.{counting_is}
 use Rattle.sets.proofs.Kept.{bool_same}
-use Rattle.sets.proofs.Trace.{members, count_rising, count_upto}
+use Rattle.sets.proofs.Trace.{of_sets, count_rising, count_upto}
 
 complement-rising : (b n : ℕ) (s : List ℕ) → Rising b (complement (suc b) n s)
 complement-rising b zero s = tt
@@ -36,19 +35,11 @@ complement-upto k b (suc n) (q ∷ s) l =
 
 map_kept : {X Y : Type 0} (f : X → Y) (p : X → Bool) (q : Y → Bool) (xs : List X) → AllByRecursion (λ x. q (f x) ≡ p x) xs → map f (filter p xs) ≡ filter q (map f xs)
 map_kept f p q [] h = refl
-map_kept f p q (x ∷ xs) h = step (p x) (q (f x)) h.0 (map_kept f p q xs h.1)
-  where
-    step : (b c : Bool) → c ≡ b → map f (filter p xs) ≡ filter q (map f xs) → map f (cond b (x ∷ filter p xs) (filter p xs)) ≡ cond c (f x ∷ filter q (map f xs)) (filter q (map f xs))
-    step true c e ih = ap (λ ys. f x ∷ ys) ih ∙ ap (λ d. cond d (f x ∷ filter q (map f xs)) (filter q (map f xs))) (sym e)
-    step false c e ih = ih ∙ ap (λ d. cond d (f x ∷ filter q (map f xs)) (filter q (map f xs))) (sym e)
+map_kept f p q (x ∷ xs) h = grind (arith, map_kept f p q xs h.1, h.0)
 
 kept_reverse : {X : Type 0} (p : X → Bool) (xs : List X) → filter p (reverse xs) ≡ reverse (filter p xs)
 kept_reverse p [] = refl
-kept_reverse p (x ∷ xs) = ap (filter p) (reverse-cons x xs) ∙ filter-append p (reverse xs) (x ∷ []) ∙ ap (λ ys. ys ++ filter p (x ∷ [])) (kept_reverse p xs) ∙ step (p x)
-  where
-    step : (b : Bool) → reverse (filter p xs) ++ cond b (x ∷ []) [] ≡ reverse (cond b (x ∷ filter p xs) (filter p xs))
-    step true = sym (reverse-cons x (filter p xs))
-    step false = append-nil (reverse (filter p xs))
+kept_reverse p (x ∷ xs) = grind (arith, common_steps, kept_reverse p xs, reverse-cons x xs, reverse-cons x (filter p xs))
 
 -- x less y
 abbrev pub minus : Algebra → Row → Row → Row
@@ -56,7 +47,7 @@ minus a x y = a.plus x (a.reverse y)
 
 module _ (a : Algebra) (laws : Laws a) where
   swap : (x y z : Row) → Own a x → Own a y → Own a z → a.plus x (a.plus y z) ≡ a.plus y (a.plus x z)
-  swap x y z ox oy oz = sym (laws.plus_assoc x y z ox oy oz) ∙ ap (λ w. a.plus w z) (laws.plus_comm x y ox oy) ∙ laws.plus_assoc y x z oy ox oz
+  swap x y z ox oy oz = cc (laws.plus_assoc x y z ox oy oz, laws.plus_comm x y ox oy, laws.plus_assoc y x z oy ox oz)
 
   minus-own : (x y : Row) → Own a x → Own a y → Own a (minus a x y)
   minus-own x y ox oy = laws.plus_own x (a.reverse y) ox (laws.reverse_own y oy)
@@ -65,12 +56,12 @@ module _ (a : Algebra) (laws : Laws a) where
   minus_plus : (x y : Row) → Own a x → Own a y → a.plus (minus a x y) y ≡ x
   minus_plus x y ox oy =
       let ob : Own a (a.reverse y) = laws.reverse_own y oy in
-      laws.plus_assoc x (a.reverse y) y ox ob oy ∙ ap (λ w. a.plus x w) (laws.plus_comm (a.reverse y) y ob oy ∙ laws.plus_reverse y oy) ∙ laws.plus_nothing x ox
+      cc (laws.plus_assoc x (a.reverse y) y ox ob oy, laws.plus_comm (a.reverse y) y ob oy, laws.plus_reverse y oy, laws.plus_nothing x ox)
 
   rest_is : (x c t : Row) → Own a x → Own a c → a.plus x c ≡ t → c ≡ minus a t x
   rest_is x c t ox oc e =
       let ob : Own a (a.reverse x) = laws.reverse_own x ox in
-      sym (laws.plus_nothing c oc) ∙ ap (λ w. a.plus c w) (sym (laws.plus_reverse x ox)) ∙ sym (laws.plus_assoc c x (a.reverse x) oc ox ob) ∙ ap (λ w. a.plus w (a.reverse x)) (laws.plus_comm c x oc ox ∙ e)
+      cc (laws.plus_nothing c oc, laws.plus_reverse x ox, laws.plus_assoc c x (a.reverse x) oc ox ob, laws.plus_comm c x oc ox)
 
   minus_minus : (t x : Row) → Own a t → Own a x → minus a t (minus a t x) ≡ x
   minus_minus t x ot ox = sym (rest_is (minus a t x) x t (minus-own t x ot ox) ox (minus_plus t x ot ox))
@@ -79,7 +70,7 @@ module _ (a : Algebra) (laws : Laws a) where
   minus_swap t x y ot ox oy =
       let bx : Own a (a.reverse x) = laws.reverse_own x ox in
       let by : Own a (a.reverse y) = laws.reverse_own y oy in
-      laws.plus_assoc t (a.reverse x) (a.reverse y) ot bx by ∙ ap (λ w. a.plus t w) (laws.plus_comm (a.reverse x) (a.reverse y) bx by) ∙ sym (laws.plus_assoc t (a.reverse y) (a.reverse x) ot by bx)
+      cc (laws.plus_assoc t (a.reverse x) (a.reverse y) ot bx by, laws.plus_comm (a.reverse x) (a.reverse y) bx by, laws.plus_assoc t (a.reverse y) (a.reverse x) ot by bx)
 
   minus_flips : (t x y : Row) → Own a t → Own a x → Own a y → NotAbove a x y → NotAbove a (minus a t y) (minus a t x)
   minus_flips t x y ot ox oy h =
@@ -172,6 +163,6 @@ module _ (a : Algebra) (laws : Laws a) where
       pub complement-solutions : (m : ℕ) → m ≤ length xs → map (complement 1 (length xs)) (solutions a xs m low high) ≡ reverse (solutions a xs (length xs - m) (minus a all high) (minus a all low))
       complement-solutions m l =
           map_kept (complement 1 (length xs)) (λ s. in_band a low high (total a xs s)) (λ s. in_band a (minus a all high) (minus a all low) (total a xs s)) (sets 1 (length xs) m)
-          (All-weaker (Among 0 (length xs) m) (λ s. in_band a (minus a all high) (minus a all low) (total a xs (complement 1 (length xs) s)) ≡ in_band a low high (total a xs s)) (complement_band m) (sets 1 (length xs) m) (members (length xs) m))
+          (of_sets (length xs) m (λ s. in_band a (minus a all high) (minus a all low) (total a xs (complement 1 (length xs) s)) ≡ in_band a low high (total a xs s)) (complement_band m))
           ∙ ap (filter (λ s. in_band a (minus a all high) (minus a all low) (total a xs s))) (complements_of_sets (length xs) m l)
           ∙ kept_reverse (λ s. in_band a (minus a all high) (minus a all low) (total a xs s)) (sets 1 (length xs) (length xs - m))

@@ -1,10 +1,9 @@
 -- What `least`, `greatest`, `count_from`, `count_down`, `same` and `widths` answer.
-use Rattle.std.proofs.Common.{◌≡◌, ℕ, zero, suc, ◌+◌, ◌<◌, ◌≤◌, Bool, true, false, cond, eqb, List, [], ◌∷◌, Some, None, Option, refl, ap, ◌∙◌, subst, ap₂, inl, inr, add-one, arith}
+use Rattle.std.proofs.Common.{◌≡◌, ℕ, zero, suc, ◌+◌, ◌<◌, ◌≤◌, Bool, true, false, List, [], ◌∷◌, Some, None, Option, refl, ap, ◌∙◌, add-one, arith}
 use Rattle.std.specs.List.{range_with_len, AllByRecursion}
 use Rattle.std.proofs.ByRecursion.{All-weaker}
-use Rattle.std.proofs.lemmas.Bool.{cases_eq, both_ways, eq-eqb, eqb-true, and_parts, and_from}
+use Rattle.std.proofs.lemmas.Bool.{cond_both}
 use Rattle.sets.proofs.Forms.{least, greatest, count_from, count_down, widths}
-use Rattle.sets.specs.Spaces.{same}
 use Rattle.sets.proofs.Vectors.{Below}
 
 -- what `least` tells: none passes, or w is the least that does
@@ -13,27 +12,13 @@ Least f v n None = (u : ℕ) → v ≤ u → u < v + n → f u ≡ true → ⊥
 Least f v n (Some w) = (v ≤ w) × (w < v + n) × (f w ≡ true) × ((u : ℕ) → v ≤ u → u < v + n → f u ≡ true → w ≤ u)
 
 least_skip : (f : ℕ → Bool) (v n : ℕ) (q : Option ℕ) → f v ≡ false → Least f (suc v) n q → Least f v (suc n) q
-least_skip f v n None e h = λ u l k t. elim (cases_eq u v) [
-  | inl p ↦ both_ways (f v) e (subst (λ x. f x ≡ true) p t)
-  | inr p ↦ h u (omega arith) (omega arith) t
-]
-least_skip f v n (Some w) e h = (
-  omega arith,
-  omega arith,
-  h.2,
-  λ u l k t. elim (cases_eq u v) [
-    | inl p ↦ absurd (both_ways (f v) e (subst (λ x. f x ≡ true) p t))
-    | inr p ↦ h.3 u (omega arith) (omega arith) t
-  ],
-)
-
-least_step : (f : ℕ → Bool) (v n : ℕ) (q : Option ℕ) (b : Bool) → f v ≡ b → Least f (suc v) n q → Least f v (suc n) (cond b (Some v) q)
-least_step f v n q true e h = (omega arith, omega arith, e, λ u l k t. l)
-least_step f v n q false e h = least_skip f v n q e h
+least_skip f v n None e h = λ u l k t. grind (arith, h u)
+least_skip f v n (Some w) e h = (omega arith, omega arith, h.2, λ u l k t. grind (arith, h.3 u))
 
 pub least_is : (f : ℕ → Bool) (v n : ℕ) → Least f v n (least f v n)
 least_is f v zero = λ u l k t. omega arith
-least_is f v (suc n) = least_step f v n (least f (suc v) n) (f v) refl (least_is f (suc v) n)
+least_is f v (suc n) =
+    cond_both (f v) (Some v) (least f (suc v) n) (Least f v (suc n)) (λ e. (omega arith, omega arith, e, λ u l k t. l)) (λ e. least_skip f v n (least f (suc v) n) e (least_is f (suc v) n))
 
 -- what `greatest` tells: none passes, or w is the greatest that does
 abbrev pub Greatest : (ℕ → Bool) → ℕ → ℕ → Option ℕ → Type 0
@@ -41,27 +26,13 @@ Greatest f v n None = (u : ℕ) → v ≤ u → u < v + n → f u ≡ true → �
 Greatest f v n (Some w) = (v ≤ w) × (w < v + n) × (f w ≡ true) × ((u : ℕ) → v ≤ u → u < v + n → f u ≡ true → u ≤ w)
 
 greatest_skip : (f : ℕ → Bool) (v n : ℕ) (q : Option ℕ) → f (v + n) ≡ false → Greatest f v n q → Greatest f v (suc n) q
-greatest_skip f v n None e h = λ u l k t. elim (cases_eq u (v + n)) [
-  | inl p ↦ both_ways (f (v + n)) e (subst (λ x. f x ≡ true) p t)
-  | inr p ↦ h u l (omega arith) t
-]
-greatest_skip f v n (Some w) e h = (
-  h.0,
-  omega arith,
-  h.2,
-  λ u l k t. elim (cases_eq u (v + n)) [
-    | inl p ↦ absurd (both_ways (f (v + n)) e (subst (λ x. f x ≡ true) p t))
-    | inr p ↦ h.3 u l (omega arith) t
-  ],
-)
-
-greatest_step : (f : ℕ → Bool) (v n : ℕ) (q : Option ℕ) (b : Bool) → f (v + n) ≡ b → Greatest f v n q → Greatest f v (suc n) (cond b (Some (v + n)) q)
-greatest_step f v n q true e h = (omega arith, omega arith, e, λ u l k t. omega arith)
-greatest_step f v n q false e h = greatest_skip f v n q e h
+greatest_skip f v n None e h = λ u l k t. grind (arith, h u)
+greatest_skip f v n (Some w) e h = (h.0, omega arith, h.2, λ u l k t. grind (arith, h.3 u))
 
 pub greatest_is : (f : ℕ → Bool) (v n : ℕ) → Greatest f v n (greatest f v n)
 greatest_is f v zero = λ u l k t. omega arith
-greatest_is f v (suc n) = greatest_step f v n (greatest f v n) (f (v + n)) refl (greatest_is f v n)
+greatest_is f v (suc n) =
+    cond_both (f (v + n)) (Some (v + n)) (greatest f v n) (Greatest f v (suc n)) (λ e. (omega arith, omega arith, e, λ u l k t. omega arith)) (λ e. greatest_skip f v n (greatest f v n) e (greatest_is f v n))
 
 pub counting_is : (i n : ℕ) → range_with_len i n ≡ count_from i n
 counting_is i zero = refl
@@ -74,16 +45,6 @@ count_from_below i (suc n) = (omega arith, All-weaker (λ j. j < suc i + n) (λ 
 pub count_down_below : (n : ℕ) → AllByRecursion (λ j. j < n) (count_down n)
 count_down_below zero = tt
 count_down_below (suc n) = (omega arith, All-weaker (λ j. j < n) (λ j. j < suc n) (λ j h. omega arith) (count_down n) (count_down_below n))
-
-pub same_true : (s t : List ℕ) → same s t ≡ true → s ≡ t
-same_true [] [] e = refl
-same_true [] (y ∷ t) e = absurd (both_ways false refl e)
-same_true (x ∷ s) [] e = absurd (both_ways false refl e)
-same_true (x ∷ s) (y ∷ t) e = let p = and_parts (eqb x y) (same s t) e in ap₂ (λ z zs. z ∷ zs) (eqb-true x y p.0) (same_true s t p.1)
-
-pub same_self : (s : List ℕ) → same s s ≡ true
-same_self [] = refl
-same_self (x ∷ s) = and_from (eqb x x) (same s s) (eq-eqb x x refl) (same_self s)
 
 pub widths_less : (lo lo' hi' hi : List ℕ) → Below lo lo' → Below lo' hi' → Below hi' hi → widths lo' hi' ≤ widths lo hi
 widths_less [] [] [] [] f g h = omega arith

@@ -1,6 +1,6 @@
 -- The complements of the sets of m places are the sets of n - m places, the other way round.
 use Rattle.std.proofs.Common.{◌≡◌, ℕ, zero, suc, ◌+◌, ◌-◌, ◌<◌, ◌≤◌, eqb, List, [], ◌∷◌, ◌++◌, map, reverse, sym, refl, ap, ◌∙◌, ap₂, append-nil, arith}
-use mathlib.Core.List.{reverse-cons}
+use mathlib.Core.List.{map-map, reverse-cons}
 use Rattle.std.specs.List.{AllByRecursion}
 use Rattle.std.proofs.lemmas.List.{map-append, reverse-append}
 use Rattle.std.proofs.lemmas.Bool.{eq-eqb, ne_eqb, cond-true, cond-false}
@@ -12,13 +12,9 @@ pub map_same : {X Y : Type 0} (f g : X → Y) (P : X → Type 0) → ((x : X) �
 map_same f g P h [] a = refl
 map_same f g P h (x ∷ xs) a = ap₂ (λ y ys. y ∷ ys) (h x a.0) (map_same f g P h xs a.1)
 
-pub map-map : {X Y Z : Type 0} (f : Y → Z) (g : X → Y) (xs : List X) → map f (map g xs) ≡ map (λ x. f (g x)) xs
-map-map f g [] = refl
-map-map f g (x ∷ xs) = ap (λ ys. f (g x) ∷ ys) (map-map f g xs)
-
 pub map-reverse : {X Y : Type 0} (f : X → Y) (xs : List X) → map f (reverse xs) ≡ reverse (map f xs)
 map-reverse f [] = refl
-map-reverse f (x ∷ xs) = ap (map f) (reverse-cons x xs) ∙ map-append f (reverse xs) (x ∷ []) ∙ ap (λ ys. ys ++ (f x ∷ [])) (map-reverse f xs) ∙ sym (reverse-cons (f x) (map f xs))
+map-reverse f (x ∷ xs) = simp (reverse-cons, map-append, map-reverse f xs)
 
 pub complement_here : (p n : ℕ) (s : List ℕ) → complement p (suc n) (p ∷ s) ≡ complement (suc p) n s
 complement_here p n s = cond-true (eqb p p) (complement (suc p) n s) (p ∷ complement (suc p) n (p ∷ s)) (eq-eqb p p refl)

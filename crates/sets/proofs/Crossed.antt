@@ -1,9 +1,14 @@
 -- A crossed search tells the sets whose totals lie in the band in each column, each once and in order, in a bounded number of steps.
-use Rattle.std.proofs.Common.{◌≡◌, ℕ, zero, suc, ◌+◌, ◌-◌, ◌*◌, ◌<◌, ◌≤◌, Bool, true, false, ◌&&◌, eqb, leb, List, [], ◌∷◌, length, get_or, pos, ◌+ℤ◌, ◌-ℤ◌, ◌*ℤ◌, ◌≤ℤ◌, filter, sym, refl, ap, ◌∙◌, subst, ap₂, inl, inr, arith}
+use Rattle.std.proofs.Common.{◌≡◌, ℕ, zero, suc, ◌+◌, ◌-◌, ◌*◌, ◌<◌, ◌≤◌, Bool, true, ◌&&◌, eqb, leb, List, [], ◌∷◌, length, get_or, pos, ◌+ℤ◌, ◌-ℤ◌, ◌*ℤ◌, ◌≤ℤ◌, filter, sym, refl, ap, ◌∙◌, subst, ap₂, inl, inr, arith}
 use Rattle.std.specs.Int.{int_max}
 use Rattle.std.specs.List.{flat_map, AllByRecursion}
 use Rattle.std.proofs.ByRecursion.{All-get_or, All-weaker, kept_by_passes}
-use Rattle.std.proofs.lemmas.Bool.{and_from, and_parts, and_right, cases_eq, eq-eqb, eqb-true, ne_eqb, le-leb, leb-true}
+use mathlib.Core.Bool.{and-true}
+use mathlib.Core.Path.{fun_ext}
+use Rattle.std.proofs.lemmas.List.Concat.{length-flat_map}
+use Rattle.std.proofs.lemmas.List.Sums.{sum_by-le}
+use Rattle.std.proofs.lemmas.Bool.Decides.{nat_tests}
+use Rattle.std.proofs.lemmas.Bool.{false_from_ne_true, and_from, and_parts, and_right, cases_eq, eq-eqb, eqb-true, ne_eqb, le-leb}
 use Rattle.measure.specs.Algebra.{Row, Own, NotAbove}
 use Rattle.sets.specs.Sets.{Rows, Climbs, sets, total, at_place, in_band}
 use Rattle.sets.specs.Trace.{Trace, trace, somes}
@@ -12,11 +17,11 @@ use Rattle.sets.specs.Crossed.{amounts, falls, shadow, shadows, place_sum, least
 use Rattle.sets.specs.Crossings.{cell, column_total, Lies, Before, Crosses, Solves}
 use Rattle.sets.proofs.Vectors.{Rising, Upto}
 use Rattle.sets.proofs.Members.{all_of, all_in, lex_irreflexive, sets_sorted}
-use Rattle.sets.proofs.Kept.{is_false, kept_same, joined_same}
-use Rattle.sets.proofs.Trace.{members, is_member, somes-flat_map}
+use Rattle.sets.proofs.Kept.{kept_same}
+use Rattle.sets.proofs.Trace.{members, of_sets, is_member, somes-flat_map}
 use Rattle.sets.proofs.Agreement.{finds, counts}
 use Rattle.sets.proofs.Amounts.{raised, Wide, more, own_wide, wide_own, part_wide, nothing_wide, amounts_laws, raised-plus, raised-nothing, raised_order, raised-climbs, steeper, length-own, nothing_column, plus_column, above_column, column_above}
-use Rattle.sets.proofs.Listed.{in_kept, kept_in, in_joined, joined_in, sorted_kept, sorted_among, sorted_joined, length-flat_map_le}
+use Rattle.sets.proofs.Listed.{in_kept, kept_in, in_joined, joined_in, sorted_kept, sorted_among, sorted_joined}
 use Rattle.sets.proofs.Ranks.{rank_totals_are, in_rank_totals, length-rank_totals}
 
 -- the falls are a row of k + 1 numbers
@@ -84,26 +89,17 @@ module _ (k : ℕ) (xs : List Row) (o : AllByRecursion (Own (amounts k)) xs) whe
 module _ (k : ℕ) (α low high t : Row) (a : Wide k α) (l : Wide k low) (h : Wide k high) (w : Wide k t) where
   -- with the rank total of the band, a row lies in the shadowed band just if it lies in the band
   band_here : (β : ℕ) → in_band (amounts (suc k)) (shadow α β low) (shadow α β high) (shadow α β t) ≡ in_band (amounts k) low high t
-  band_here β = ap₂ (λ x y. (x && (amounts k).not_above (raised α β low) (raised α β t)) && (y && (amounts k).not_above (raised α β t) (raised α β high))) (le-leb β β (omega arith)) (le-leb β β (omega arith))
-      ∙ ap₂ (λ x y. x && y) (raised_order a l w β) (raised_order a w h β)
+  band_here β = grind (arith, nat_tests, raised_order a l w β, raised_order a w h β)
 
   -- with another rank total, it does not
   band_same : (β r : ℕ) → in_band (amounts (suc k)) (shadow α β low) (shadow α β high) (shadow α r t) ≡ true → r ≡ β
-  band_same β r e =
-      let p = and_parts ((amounts (suc k)).not_above (shadow α β low) (shadow α r t)) ((amounts (suc k)).not_above (shadow α r t) (shadow α β high)) e in
-      let q = and_parts (leb β r) ((amounts k).not_above (raised α β low) (raised α r t)) p.0 in
-      let s = and_parts (leb r β) ((amounts k).not_above (raised α r t) (raised α β high)) p.1 in
-      omega (arith, leb-true β r q.0, leb-true r β s.0)
+  band_same β r e = grind (arith, nat_tests)
 
   band_is : (β r : ℕ) → in_band (amounts (suc k)) (shadow α β low) (shadow α β high) (shadow α r t) ≡ (in_band (amounts k) low high t && eqb r β)
   band_is β r = elim (cases_eq r β) [
-    | inl e ↦ ap (λ q. in_band (amounts (suc k)) (shadow α β low) (shadow α β high) (shadow α q t)) e ∙ band_here β ∙ sym (ap (λ b. in_band (amounts k) low high t && b) (eq-eqb r β e) ∙ and_true (in_band (amounts k) low high t))
-    | inr e ↦ is_false (in_band (amounts (suc k)) (shadow α β low) (shadow α β high) (shadow α r t)) (λ f. e (band_same β r f)) ∙ sym (and_right (in_band (amounts k) low high t) (eqb r β) (ne_eqb r β e))
+    | inl e ↦ ap (λ q. in_band (amounts (suc k)) (shadow α β low) (shadow α β high) (shadow α q t)) e ∙ band_here β ∙ sym (ap (λ b. in_band (amounts k) low high t && b) (eq-eqb r β e) ∙ and-true (in_band (amounts k) low high t))
+    | inr e ↦ false_from_ne_true (in_band (amounts (suc k)) (shadow α β low) (shadow α β high) (shadow α r t)) (λ f. e (band_same β r f)) ∙ sym (and_right (in_band (amounts k) low high t) (eqb r β) (ne_eqb r β e))
   ]
-    where
-      and_true : (b : Bool) → (b && true) ≡ b
-      and_true true = refl
-      and_true false = refl
 
 before_irreflexive : (s : List ℕ) → Before s s → ⊥
 before_irreflexive s (inl l) = omega arith
@@ -156,11 +152,11 @@ module _ (k : ℕ) (xs : List Row) (low high : Row) (m : ℕ) (c : Crosses k xs 
       finds (amounts (suc k)) (amounts_laws (suc k)) (shadows α 1 xs) (shadow_rows k xs own-entries) (shadow α β low) (shadow α β high) (shadow-own wα (own_wide k low own-low) β) (shadow-own wα (own_wide k high own-high) β) m c.some (subst (λ n. m ≤ n) (sym (shadows-length α 1 xs)) c.room)
       ∙ ap (λ n. filter (λ s. in_band (amounts (suc k)) (shadow α β low) (shadow α β high) (total (amounts (suc k)) (shadows α 1 xs) s)) (sets 1 n m)) (shadows-length α 1 xs)
       ∙ kept_same (λ s. in_band (amounts (suc k)) (shadow α β low) (shadow α β high) (total (amounts (suc k)) (shadows α 1 xs) s)) (λ s. good s && eqb (place_sum s) β) (sets 1 (length xs) m)
-      (All-weaker (Among 0 (length xs) m) (λ s. in_band (amounts (suc k)) (shadow α β low) (shadow α β high) (total (amounts (suc k)) (shadows α 1 xs) s) ≡ (good s && eqb (place_sum s) β)) (λ s h. set_band β s h) (sets 1 (length xs) m) (members (length xs) m))
+      (of_sets (length xs) m (λ s. in_band (amounts (suc k)) (shadow α β low) (shadow α β high) (total (amounts (suc k)) (shadows α 1 xs) s) ≡ (good s && eqb (place_sum s) β)) (λ s h. set_band β s h))
 
   pub crossed_finds : somes (crossed k xs low high m) ≡ crossed_solutions k xs low high m
   unfolding α straight part good
-  crossed_finds = somes-flat_map straight (rank_totals (length xs) m) ∙ joined_same (λ β. somes (straight β)) part (λ β. Unit {0}) (λ β u. straight_finds β) (rank_totals (length xs) m) (all_of (λ β. Unit {0}) (λ β. tt) (rank_totals (length xs) m))
+  crossed_finds = somes-flat_map straight (rank_totals (length xs) m) ∙ ap (λ f. flat_map f (rank_totals (length xs) m)) (fun_ext straight_finds)
 
   -- in the band as a row, and in each column
   lies_from : (s : List ℕ) → Among 0 (length xs) m s → good s ≡ true → Lies k xs low high s
@@ -217,4 +213,7 @@ module _ (k : ℕ) (xs : List Row) (low high : Row) (m : ℕ) (c : Crosses k xs 
 
   pub crossed_counts : length (crossed k xs low high m) ≤ (m * (length xs - m) + 1) * (2 * length (sets 1 (length xs) m) - 1)
   unfolding α straight
-  crossed_counts = subst (λ n. length (crossed k xs low high m) ≤ n * (2 * length (sets 1 (length xs) m) - 1)) (length-rank_totals (length xs) m c.room) (length-flat_map_le straight (2 * length (sets 1 (length xs) m) - 1) straight_counts (rank_totals (length xs) m))
+  crossed_counts =
+      let βs : List ℕ = rank_totals (length xs) m in
+      let most : ℕ = 2 * length (sets 1 (length xs) m) - 1 in
+      rw (length-flat_map straight βs) (rw (← length-rank_totals (length xs) m c.room) (sum_by-le (λ β. length (straight β)) most βs (λ i d l. straight_counts (get_or βs i d))))

@@ -1,19 +1,14 @@
 -- A second form of the search: positions count from 0, and a step at one position pushes its neighbours along, so that
 -- a space stays a space of rising sets at every step. The theorems are proved of this form, and Agreement.antt shows
 -- that it gives the same trace.
-use Rattle.std.proofs.Common.{ℕ, zero, suc, ◌+◌, ◌-◌, min, max, Bool, cond, ◌&&◌, ltb, List, [], ◌∷◌, length, get_or, Some, None, Option}
+use Rattle.std.proofs.Common.{ℕ, zero, suc, ◌+◌, ◌-◌, min, max, Bool, cond, ◌&&◌, ltb, List, [], ◌∷◌, length, get_or, Some, None, Option, option_and_then}
 use Rattle.std.specs.List.{flat_map}
 use Rattle.measure.specs.Algebra.{Algebra, Row}
 use Rattle.sets.specs.Sets.{total}
 use Rattle.sets.specs.Spaces.{Space, space, same}
 use Rattle.sets.specs.Trace.{Trace}
 
--- goes on with a value, if there is one
-abbrev pub then : {A B : Type 0} → Option A → (A → Option B) → Option B
-then None f = None
-then (Some x) f = f x
-
--- i, i + 1, ..., n of them
+-- i, i + 1, ..., n of them. Kept: `range_with_len` steps by i + 1, which a recursion does not compute to suc i.
 abbrev pub count_from : ℕ → ℕ → List ℕ
 count_from i zero = []
 count_from i (suc n) = i ∷ count_from (suc i) n
@@ -64,7 +59,7 @@ widths (l ∷ lo) (h ∷ hi) = (h - l) + widths lo hi
 abbrev pub open_at : List ℕ → List ℕ → Option ℕ
 open_at [] hi = None
 open_at (l ∷ lo) [] = None
-open_at (l ∷ lo) (h ∷ hi) = cond (ltb l h) (Some 0) (then (open_at lo hi) (λ i. Some (suc i)))
+open_at (l ∷ lo) (h ∷ hi) = cond (ltb l h) (Some 0) (option_and_then (λ i. Some (suc i)) (open_at lo hi))
 
 -- the part of a space with v at position i
 abbrev pub child : Space → ℕ → ℕ → Space
@@ -73,7 +68,7 @@ child s i v = space (lifted s.lo i v) (topped s.hi i v)
 -- steps at the positions of a list in turn; none: the space is empty
 abbrev pub sweep : (Space → ℕ → Option Space) → List ℕ → Space → Option Space
 sweep step [] s = Some s
-sweep step (i ∷ is) s = then (step s i) (sweep step is)
+sweep step (i ∷ is) s = option_and_then (sweep step is) (step s i)
 
 -- how many places position i has
 abbrev pub choices : Space → ℕ → ℕ
@@ -92,19 +87,19 @@ examined deeper (Some t) = split deeper t (open_at t.lo t.hi)
 module _ (a : Algebra) (xs : List Row) (low high : Row) where
   -- position i goes up to the least place with which low can be reached
   abbrev pub raise : Space → ℕ → Option Space
-  raise s i = then (least (λ v. a.not_above low (total a xs (topped s.hi i v))) (at s.lo i) (choices s i)) (λ v. Some (space (lifted s.lo i v) s.hi))
+  raise s i = option_and_then (λ v. Some (space (lifted s.lo i v) s.hi)) (least (λ v. a.not_above low (total a xs (topped s.hi i v))) (at s.lo i) (choices s i))
 
   -- position i goes down to the greatest place with which high need not be passed
   abbrev pub lower : Space → ℕ → Option Space
-  lower s i = then (greatest (λ v. a.not_above (total a xs (lifted s.lo i v)) high) (at s.lo i) (choices s i)) (λ v. Some (space s.lo (topped s.hi i v)))
+  lower s i = option_and_then (λ v. Some (space s.lo (topped s.hi i v))) (greatest (λ v. a.not_above (total a xs (lifted s.lo i v)) high) (at s.lo i) (choices s i))
 
   abbrev pub pass : Space → Option Space
-  pass s = then (sweep raise (count_from 0 (length s.lo)) s) (sweep lower (count_down (length s.lo)))
+  pass s = option_and_then (sweep lower (count_down (length s.lo))) (sweep raise (count_from 0 (length s.lo)) s)
 
   -- passes until one moves nothing, at most n + 1 of them
   abbrev pub squeeze : ℕ → Space → Option Space
   squeeze zero s = pass s
-  squeeze (suc n) s = then (pass s) (λ t. cond (same s.lo t.lo && same s.hi t.hi) (Some t) (squeeze n t))
+  squeeze (suc n) s = option_and_then (λ t. cond (same s.lo t.lo && same s.hi t.hi) (Some t) (squeeze n t)) (pass s)
 
   abbrev pub squeezed : Space → Option Space
   squeezed s = squeeze (widths s.lo s.hi) s

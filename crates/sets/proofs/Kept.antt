@@ -1,72 +1,34 @@
 -- What a filter keeps of a sorted list, and how it falls apart by a key.
-use Rattle.std.proofs.Common.{◌≡◌, ℕ, zero, suc, ◌+◌, ◌*◌, ◌<◌, ◌≤◌, Bool, true, false, cond, ◌&&◌, eqb, leb, List, [], ◌∷◌, ◌++◌, length, filter, sym, refl, ap, ◌∙◌, subst, ap₂, inl, inr, arith, length-append}
+use Rattle.std.proofs.Common.{◌≡◌, ℕ, zero, suc, ◌+◌, ◌*◌, ◌<◌, ◌≤◌, Bool, true, false, ◌&&◌, eqb, leb, List, [], ◌∷◌, ◌++◌, length, filter, sym, refl, ap, ◌∙◌, subst, ap₂, arith, length-append}
 use Rattle.std.specs.List.{flat_map, AllByRecursion}
 use Rattle.std.proofs.ByRecursion.{All-weaker}
-use Rattle.std.proofs.lemmas.Bool.{cases_Bool, cases_order, both_ways, cond-true, cond-false, and_from, and_parts, and_left, and_right, eq-eqb, eqb-true, ne_eqb, le-leb, lt-leb, leb-true}
+use Rattle.std.proofs.lemmas.Bool.Decides.{same_from_decides, nat_tests}
+use Rattle.std.proofs.lemmas.Bool.{false_from_ne_true, and_from, and_parts, eqb-true, le-leb, leb-true}
 use Rattle.sets.proofs.Forms.{count_from}
 use Rattle.sets.proofs.Members.{In, Sorted}
 
 pub bool_same : (b c : Bool) → (b ≡ true → c ≡ true) → (c ≡ true → b ≡ true) → b ≡ c
-bool_same true c f g = sym (f refl)
-bool_same false true f g = g refl
-bool_same false false f g = refl
-
-pub is_false : (b : Bool) → (b ≡ true → ⊥) → b ≡ false
-is_false true f = absurd (f refl)
-is_false false f = refl
+bool_same b c f g = same_from_decides {P = c ≡ true} b c (f, g) (λ e. e, λ e. e)
 
 module _ {X : Type 0} where
-  kept_yes : (p : X → Bool) (x : X) (xs : List X) → p x ≡ true → filter p (x ∷ xs) ≡ x ∷ filter p xs
-  kept_yes p x xs e = cond-true (p x) (x ∷ filter p xs) (filter p xs) e
-
-  kept_no : (p : X → Bool) (x : X) (xs : List X) → p x ≡ false → filter p (x ∷ xs) ≡ filter p xs
-  kept_no p x xs e = cond-false (p x) (x ∷ filter p xs) (filter p xs) e
-
+  -- Kept: the library has these two in std_collections alone, which this crate cannot name.
   pub kept_same : (p q : X → Bool) (xs : List X) → AllByRecursion (λ x. p x ≡ q x) xs → filter p xs ≡ filter q xs
   kept_same p q [] a = refl
-  kept_same p q (x ∷ xs) a = ap₂ (λ b ys. cond b (x ∷ ys) ys) a.0 (kept_same p q xs a.1)
+  kept_same p q (x ∷ xs) a = cc (kept_same p q xs a.1)
 
   pub kept_none : (p : X → Bool) (xs : List X) → AllByRecursion (λ x. p x ≡ false) xs → filter p xs ≡ []
   kept_none p [] a = refl
-  kept_none p (x ∷ xs) a = kept_no p x xs a.0 ∙ kept_none p xs a.1
+  kept_none p (x ∷ xs) a = cc (kept_none p xs a.1)
 
   pub kept_one : (R : X → X → Type 0) → ((x : X) → R x x → ⊥) → (p : X → Bool) (x : X) → p x ≡ true → ((y : X) → p y ≡ true → y ≡ x) → (xs : List X) → Sorted R xs → In x xs → filter p xs ≡ x ∷ []
   kept_one R irr p x px only [] s i = absurd i
-  kept_one R irr p x px only (y ∷ ys) s i = elim (cases_Bool (p y)) [
-    | inl e ↦
-        let same : y ≡ x = only y e in
-        kept_yes p y ys e ∙ ap₂ (λ z zs. z ∷ zs) same (kept_none p ys (All-weaker (R y) (λ z. p z ≡ false) (λ z r. is_false (p z) (λ f. irr y (subst (R y) (only z f ∙ sym same) r))) ys s.0))
-    | inr e ↦ kept_no p y ys e ∙ elim i [
-      | inl f ↦ absurd (both_ways (p y) e (subst (λ z. p z ≡ true) f px))
-      | inr h ↦ kept_one R irr p x px only ys s.1 h
-    ]
-  ]
-
-  pub kept_has : (p : X → Bool) (x : X) (xs : List X) → In x xs → p x ≡ true → 1 ≤ length (filter p xs)
-  kept_has p x [] i e = absurd i
-  kept_has p x (y ∷ ys) (inl f) e = subst (λ zs. 1 ≤ length zs) (sym (kept_yes p y ys (subst (λ z. p z ≡ true) f e))) (omega arith)
-  kept_has p x (y ∷ ys) (inr h) e = elim (cases_Bool (p y)) [
-    | inl f ↦ subst (λ zs. 1 ≤ length zs) (sym (kept_yes p y ys f)) (omega arith)
-    | inr f ↦ subst (λ zs. 1 ≤ length zs) (sym (kept_no p y ys f)) (kept_has p x ys h e)
-  ]
+  kept_one R irr p x px only (y ∷ ys) s i =
+      let later : p y ≡ true → filter p ys ≡ [] = λ e. kept_none p ys (All-weaker (R y) (λ z. p z ≡ false) (λ z r. false_from_ne_true (p z) (λ f. irr y (subst (R y) (only z f ∙ sym (only y e)) r))) ys s.0) in
+      grind (arith, later, only y, kept_one R irr p x px only ys s.1)
 
   pub kept_fewer : (p q : X → Bool) (xs : List X) → AllByRecursion (λ x. p x ≡ true → q x ≡ true) xs → length (filter p xs) ≤ length (filter q xs)
   kept_fewer p q [] a = omega arith
-  kept_fewer p q (x ∷ xs) a = step (p x) (q x) a.0 (kept_fewer p q xs a.1)
-    where
-      step : (b c : Bool) → (b ≡ true → c ≡ true) → length (filter p xs) ≤ length (filter q xs) → length (cond b (x ∷ filter p xs) (filter p xs)) ≤ length (cond c (x ∷ filter q xs) (filter q xs))
-      step true true f h = omega arith
-      step true false f h = absurd (both_ways false refl (f refl))
-      step false true f h = omega arith
-      step false false f h = h
-
-  pub kept_most : (p : X → Bool) (xs : List X) → length (filter p xs) ≤ length xs
-  kept_most p [] = omega arith
-  kept_most p (x ∷ xs) = step (p x) (kept_most p xs)
-    where
-      step : (b : Bool) → length (filter p xs) ≤ length xs → length (cond b (x ∷ filter p xs) (filter p xs)) ≤ suc (length xs)
-      step true h = omega arith
-      step false h = omega arith
+  kept_fewer p q (x ∷ xs) a = grind (arith, kept_fewer p q xs a.1, a.0)
 
   pub joined_same : {Y : Type 0} (f g : X → List Y) (P : X → Type 0) → ((x : X) → P x → f x ≡ g x) → (xs : List X) → AllByRecursion P xs → flat_map f xs ≡ flat_map g xs
   joined_same f g P h [] a = refl
@@ -82,37 +44,16 @@ module _ {X : Type 0} where
     -- those with a for key stand before those with a greater one
     kept_part_step : (a : ℕ) (x : X) (xs : List X) → Sorted R (x ∷ xs) → filter (λ x. p x && leb a (key x)) xs ≡ filter (λ x. p x && eqb (key x) a) xs ++ filter (λ x. p x && leb (suc a) (key x)) xs → filter (λ x. p x && leb a (key x)) (x ∷ xs) ≡ filter (λ x. p x && eqb (key x) a) (x ∷ xs) ++ filter (λ x. p x && leb (suc a) (key x)) (x ∷ xs)
     kept_part_step a x xs s ih =
-        elim (cases_Bool (p x)) [
-          | inr e ↦ out (and_left (p x) (leb a (key x)) e) (and_left (p x) (eqb (key x) a) e) (and_left (p x) (leb (suc a) (key x)) e)
-          | inl e ↦ elim (cases_order (key x) a) [
-            | inl k ↦ kept_yes from x xs (and_from (p x) (leb a (key x)) e (le-leb a (key x) (omega arith))) ∙ ap (λ ys. x ∷ ys) ih
-                ∙ sym (ap₂ (λ ys zs. ys ++ zs) (kept_yes here x xs (and_from (p x) (eqb (key x) a) e (eq-eqb (key x) a k))) (kept_no past x xs (and_right (p x) (leb (suc a) (key x)) (lt-leb (suc a) (key x) (omega arith)))))
-            | inr (inl k) ↦ out (and_right (p x) (leb a (key x)) (lt-leb a (key x) k)) (and_right (p x) (eqb (key x) a) (ne_eqb (key x) a (λ q. omega arith))) (and_right (p x) (leb (suc a) (key x)) (lt-leb (suc a) (key x) (omega arith)))
-            | inr (inr k) ↦
-                let gone : filter here xs ≡ [] = kept_none here xs (All-weaker (R x) (λ y. here y ≡ false) (λ y r. is_false (here y) (λ f. let q = and_parts (p y) (eqb (key y) a) f in absurd (omega (arith, mono x y r e q.0, eqb-true (key y) a q.1)))) xs s.0) in
-                kept_yes from x xs (and_from (p x) (leb a (key x)) e (le-leb a (key x) (omega arith))) ∙ ap (λ ys. x ∷ ys) (ih ∙ ap (λ ys. ys ++ filter past xs) gone)
-                ∙ sym (ap₂ (λ ys zs. ys ++ zs) (kept_no here x xs (and_right (p x) (eqb (key x) a) (ne_eqb (key x) a (λ q. omega arith))) ∙ gone) (kept_yes past x xs (and_from (p x) (leb (suc a) (key x)) e (le-leb (suc a) (key x) k))))
-          ]
-        ]
-      where
-        from : X → Bool
-        from y = p y && leb a (key y)
-
-        here : X → Bool
-        here y = p y && eqb (key y) a
-
-        past : X → Bool
-        past y = p y && leb (suc a) (key y)
-
-        out : from x ≡ false → here x ≡ false → past x ≡ false → filter from (x ∷ xs) ≡ filter here (x ∷ xs) ++ filter past (x ∷ xs)
-        out f g h = kept_no from x xs f ∙ ih ∙ sym (ap₂ (λ ys zs. ys ++ zs) (kept_no here x xs g) (kept_no past x xs h))
+        let gone : p x ≡ true → a < key x → filter (λ y. p y && eqb (key y) a) xs ≡ [] =
+        λ e k. kept_none (λ y. p y && eqb (key y) a) xs (All-weaker (R x) (λ y. (p y && eqb (key y) a) ≡ false) (λ y r. false_from_ne_true (p y && eqb (key y) a) (λ f. let q = and_parts (p y) (eqb (key y) a) f in absurd (omega (arith, mono x y r e q.0, eqb-true (key y) a q.1)))) xs s.0) in
+        grind (arith, nat_tests, gone, ih)
 
     kept_part : (a : ℕ) (xs : List X) → Sorted R xs → filter (λ x. p x && leb a (key x)) xs ≡ filter (λ x. p x && eqb (key x) a) xs ++ filter (λ x. p x && leb (suc a) (key x)) xs
     kept_part a [] s = refl
     kept_part a (x ∷ xs) s = kept_part_step a x xs s (kept_part a xs s.1)
 
     kept_from : (a n : ℕ) (xs : List X) → Sorted R xs → AllByRecursion (λ x. p x ≡ true → key x < a + n) xs → filter (λ x. p x && leb a (key x)) xs ≡ flat_map (λ v. filter (λ x. p x && eqb (key x) v) xs) (count_from a n)
-    kept_from a zero xs s b = kept_none (λ x. p x && leb a (key x)) xs (All-weaker (λ x. p x ≡ true → key x < a + zero) (λ x. (p x && leb a (key x)) ≡ false) (λ x h. is_false (p x && leb a (key x)) (λ f. let q = and_parts (p x) (leb a (key x)) f in omega (arith, h q.0, leb-true a (key x) q.1))) xs b)
+    kept_from a zero xs s b = kept_none (λ x. p x && leb a (key x)) xs (All-weaker (λ x. p x ≡ true → key x < a + zero) (λ x. (p x && leb a (key x)) ≡ false) (λ x h. false_from_ne_true (p x && leb a (key x)) (λ f. let q = and_parts (p x) (leb a (key x)) f in omega (arith, h q.0, leb-true a (key x) q.1))) xs b)
     kept_from a (suc n) xs s b =
         kept_part a xs s ∙ ap (λ ys. filter (λ x. p x && eqb (key x) a) xs ++ ys) (kept_from (suc a) n xs s (All-weaker (λ x. p x ≡ true → key x < a + suc n) (λ x. p x ≡ true → key x < suc a + n) (λ x h f. omega (arith, h f)) xs b))
 

@@ -1,8 +1,8 @@
 -- Which members kept and joined lists have, in which order, and how many.
-use Rattle.std.proofs.Common.{◌≡◌, ℕ, zero, suc, ◌+◌, ◌*◌, ◌<◌, ◌≤◌, Bool, true, false, cond, ◌⊎◌, List, [], ◌∷◌, ◌++◌, length, filter, refl, ap, ◌∙◌, subst, inl, inr, arith, length-append}
+use Rattle.std.proofs.Common.{◌≡◌, ℕ, zero, suc, ◌+◌, ◌<◌, ◌≤◌, Bool, true, ◌⊎◌, List, [], ◌∷◌, ◌++◌, length, filter, refl, subst, inl, inr, arith}
 use Rattle.std.specs.List.{flat_map, AllByRecursion}
 use Rattle.std.proofs.ByRecursion.{All-append, All-weaker, all_kept_by}
-use Rattle.std.proofs.lemmas.Bool.{both_ways, cases_eq}
+use Rattle.std.proofs.lemmas.Bool.{cond_both, cases_eq}
 use Rattle.sets.specs.Orders.{In, Sorted}
 use Rattle.sets.proofs.Forms.{count_from}
 use Rattle.sets.proofs.Members.{in_left, in_right, sorted_append}
@@ -18,26 +18,19 @@ module _ {X : Type 0} where
   in_append : (x : X) (ys zs : List X) → In x (ys ++ zs) → In x ys ⊎ In x zs
   in_append x [] zs h = inr h
   in_append x (y ∷ ys) zs (inl e) = inl (inl e)
-  in_append x (y ∷ ys) zs (inr h) = elim (in_append x ys zs h) [ inl k ↦ inl (inr k) | inr k ↦ inr k ]
+  in_append x (y ∷ ys) zs (inr h) = grind (arith, in_append x ys zs h)
 
   pub in_kept : (p : X → Bool) (x : X) (xs : List X) → In x (filter p xs) → In x xs × (p x ≡ true)
   in_kept p x [] h = absurd h
-  in_kept p x (y ∷ ys) h = step (p y) refl (λ k. let q : In x ys × (p x ≡ true) = in_kept p x ys k in (inr q.0, q.1)) h
-    where
-      step : (b : Bool) → p y ≡ b → (In x (filter p ys) → In x (y ∷ ys) × (p x ≡ true)) → In x (cond b (y ∷ filter p ys) (filter p ys)) → In x (y ∷ ys) × (p x ≡ true)
-      step true e later (inl f) = (inl f, ap p f ∙ e)
-      step true e later (inr k) = later k
-      step false e later k = later k
+  in_kept p x (y ∷ ys) h = grind (arith, in_kept p x ys)
 
   pub kept_in : (p : X → Bool) (x : X) (xs : List X) → In x xs → p x ≡ true → In x (filter p xs)
   kept_in p x [] h e = absurd h
-  kept_in p x (y ∷ ys) h e = step (p y) refl (λ k. kept_in p x ys k e) h
-    where
-      step : (b : Bool) → p y ≡ b → (In x ys → In x (filter p ys)) → In x (y ∷ ys) → In x (cond b (y ∷ filter p ys) (filter p ys))
-      step true t later (inl f) = inl f
-      step true t later (inr k) = inr (later k)
-      step false t later (inl f) = absurd (both_ways (p y) t (subst (λ z. p z ≡ true) f e))
-      step false t later (inr k) = later k
+  kept_in p x (y ∷ ys) h e = grind (arith, kept_in p x ys)
+
+  pub in_some : (x : X) (xs : List X) → In x xs → 1 ≤ length xs
+  in_some x [] i = absurd i
+  in_some x (y ∷ ys) i = omega arith
 
   pub in_joined : {Y : Type 0} (f : Y → List X) (x : X) (ys : List Y) → In x (flat_map f ys) → (y : Y) × (In y ys × In x (f y))
   in_joined f x [] h = absurd h
@@ -53,11 +46,7 @@ module _ {X : Type 0} where
 
   pub sorted_kept : (R : X → X → Type 0) (p : X → Bool) (xs : List X) → Sorted R xs → Sorted R (filter p xs)
   sorted_kept R p [] s = tt
-  sorted_kept R p (x ∷ xs) s = step (p x) (sorted_kept R p xs s.1)
-    where
-      step : (b : Bool) → Sorted R (filter p xs) → Sorted R (cond b (x ∷ filter p xs) (filter p xs))
-      step true k = (all_kept_by p (R x) xs s.0, k)
-      step false k = k
+  sorted_kept R p (x ∷ xs) s = cond_both (p x) (x ∷ filter p xs) (filter p xs) (Sorted R) (λ e. (all_kept_by p (R x) xs s.0, sorted_kept R p xs s.1)) (λ e. sorted_kept R p xs s.1)
 
   -- an order among those that have a property
   pub sorted_among : (R S : X → X → Type 0) (P : X → Type 0) → ((x y : X) → P x → P y → R x y → S x y) → (xs : List X) → AllByRecursion P xs → Sorted R xs → Sorted S xs
@@ -82,7 +71,3 @@ module _ {X : Type 0} where
         let rest : List X = flat_map f (count_from (suc a) n) in
         sorted_append R (f a) rest (sorted a) (sorted_joined (suc a) n)
         (All-weaker (λ x. key x ≡ a) (λ x. AllByRecursion (R x) rest) (λ x e. All-weaker (λ y. suc a ≤ key y) (R x) (λ y l. apart x y (omega arith)) rest (from_all (suc a) n)) (f a) (keyed a))
-
-pub length-flat_map_le : {X Y : Type 0} (f : X → List Y) (c : ℕ) → ((x : X) → length (f x) ≤ c) → (xs : List X) → length (flat_map f xs) ≤ length xs * c
-length-flat_map_le f c h [] = omega arith
-length-flat_map_le f c h (x ∷ xs) = omega (arith, h x, length-flat_map_le f c h xs, length-append (f x) (flat_map f xs))

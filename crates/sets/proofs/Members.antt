@@ -1,7 +1,8 @@
 -- What the list of all sets holds, and in which order.
-use Rattle.std.proofs.Common.{◌≡◌, ℕ, zero, suc, ◌+◌, ◌≤◌, List, [], ◌∷◌, ◌++◌, map, sym, refl, ap, subst, inl, inr, arith}
+use Rattle.std.proofs.Common.{◌≡◌, ℕ, zero, suc, ◌+◌, ◌≤◌, List, [], ◌∷◌, ◌++◌, map, get_or, sym, refl, ap, subst, inl, inr, arith}
 use Rattle.std.specs.List.{AllByRecursion}
 use Rattle.std.proofs.ByRecursion.{All-append, All-map, All-weaker}
+use Rattle.std.proofs.lemmas.List.Elements.{recursion_from_All}
 use Rattle.std.proofs.lemmas.Bool.{cases_eq}
 use Rattle.sets.specs.Sets.{sets}
 pub use Rattle.sets.specs.Orders.{Among, In, Sorted, Lex}
@@ -81,8 +82,7 @@ sorted_cons p (x ∷ xs) h =
     (All-map (Lex (p ∷ x)) (λ s. p ∷ s) xs (All-weaker (Lex x) (λ s. Lex (p ∷ x) (p ∷ s)) (λ s k. inr (refl, k)) xs h.0), sorted_cons p xs h.1)
 
 pub all_of : {X : Type 0} (P : X → Type 0) → ((x : X) → P x) → (xs : List X) → AllByRecursion P xs
-all_of P f [] = tt
-all_of P f (x ∷ xs) = (f x, all_of P f xs)
+all_of P f xs = recursion_from_All P xs (λ k d l. f (get_or xs k d))
 
 after_head : (p n m : ℕ) (s t : List ℕ) → Among p n (suc m) t → Lex (p ∷ s) t
 after_head p n m s [] h = absurd (omega (arith, h.size))

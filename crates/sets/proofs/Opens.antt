@@ -1,7 +1,7 @@
 -- The first open position, and what is settled before it.
-use Rattle.std.proofs.Common.{◌≡◌, ℕ, zero, suc, ◌<◌, ◌≤◌, Bool, true, false, cond, ltb, List, [], ◌∷◌, length, Some, None, Option, refl, ap₂, inl, inr, arith}
-use Rattle.std.proofs.lemmas.Bool.{ltb-true, ltb-false}
-use Rattle.sets.proofs.Forms.{then, at, open_at}
+use Rattle.std.proofs.Common.{◌≡◌, ℕ, zero, suc, ◌<◌, ◌≤◌, ltb, List, [], ◌∷◌, length, Some, None, Option, option_and_then, refl, ap₂, inl, inr, arith}
+use Rattle.std.proofs.lemmas.Bool.{cond_both, ltb-true, ltb-false}
+use Rattle.sets.proofs.Forms.{at, open_at}
 use Rattle.sets.proofs.Vectors.{Below}
 use Rattle.sets.proofs.Members.{Lex}
 
@@ -17,7 +17,7 @@ abbrev pub Opens : List ℕ → List ℕ → Option ℕ → Type 0
 Opens lo hi None = lo ≡ hi
 Opens lo hi (Some i) = (i < length lo) × (at lo i < at hi i) × Settled i lo hi
 
-opens_later : (l h : ℕ) (lo hi : List ℕ) (q : Option ℕ) → l ≡ h → Opens lo hi q → Opens (l ∷ lo) (h ∷ hi) (then q (λ i. Some (suc i)))
+opens_later : (l h : ℕ) (lo hi : List ℕ) (q : Option ℕ) → l ≡ h → Opens lo hi q → Opens (l ∷ lo) (h ∷ hi) (option_and_then (λ i. Some (suc i)) q)
 opens_later l h lo hi None e k = ap₂ (λ z zs. z ∷ zs) e k
 opens_later l h lo hi (Some i) e k = (omega arith, k.1, (e, k.2))
 
@@ -26,11 +26,9 @@ pub open_is : (lo hi : List ℕ) → Below lo hi → Opens lo hi (open_at lo hi)
 open_is [] [] b = refl
 open_is [] (h ∷ hi) b = absurd b
 open_is (l ∷ lo) [] b = absurd b
-open_is (l ∷ lo) (h ∷ hi) b = go (ltb l h) refl (open_is lo hi b.1)
-  where
-    go : (t : Bool) → ltb l h ≡ t → Opens lo hi (open_at lo hi) → Opens (l ∷ lo) (h ∷ hi) (cond t (Some 0) (then (open_at lo hi) (λ i. Some (suc i))))
-    go true e k = (omega arith, ltb-true l h e, tt)
-    go false e k = opens_later l h lo hi (open_at lo hi) (let p : l ≡ h = omega (arith, ltb-false l h e) in p) k
+open_is (l ∷ lo) (h ∷ hi) b =
+    cond_both (ltb l h) (Some 0) (option_and_then (λ i. Some (suc i)) (open_at lo hi)) (Opens (l ∷ lo) (h ∷ hi)) (λ e. (omega arith, ltb-true l h e, tt))
+    (λ e. let p : l ≡ h = omega (arith, ltb-false l h e) in opens_later l h lo hi (open_at lo hi) p (open_is lo hi b.1))
 
 pub settled_open : (k : ℕ) (lo hi : List ℕ) (i : ℕ) → Settled k lo hi → i < length lo → at lo i < at hi i → k ≤ i
 settled_open zero lo hi i s l o = omega arith

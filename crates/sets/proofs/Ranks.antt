@@ -1,5 +1,5 @@
 -- Between which numbers the sum of m of n places lies.
-use Rattle.std.proofs.Common.{◌≡◌, ℕ, zero, suc, ◌+◌, ◌-◌, ◌*◌, ◌/◌, ◌<◌, ◌≤◌, List, [], ◌∷◌, length, sym, ap, ◌∙◌, subst, arith}
+use Rattle.std.proofs.Common.{◌≡◌, ℕ, zero, suc, ◌+◌, ◌-◌, ◌*◌, ◌/◌, ◌≤◌, List, [], ◌∷◌, length, sym, ap, ◌∙◌, subst, arith}
 use Rattle.sets.specs.Crossed.{place_sum, least_total, greatest_total, rank_totals}
 use Rattle.sets.specs.Orders.{In}
 use Rattle.sets.proofs.Forms.{count_from}
@@ -26,28 +26,18 @@ least_total_is m = omega (arith, place_sum_count 0 m)
 greatest_total_is : (n m : ℕ) → m ≤ n → greatest_total n m ≡ place_sum (count_from (suc (n - m)) m)
 greatest_total_is n m l =
     let e : 2 * n - m + 1 ≡ 2 * (n - m) + m + 1 = omega arith in
-    ap (λ k. m * k / 2) e ∙ half (m * (2 * (n - m) + m + 1)) (place_sum (count_from (suc (n - m)) m)) (place_sum_count (n - m) m)
-  where
-    half : (a b : ℕ) → 2 * b ≡ a → a / 2 ≡ b
-    half a b h = omega arith
+    ap (λ k. m * k / 2) e ∙ omega (arith, place_sum_count (n - m) m)
 
 -- how far the two ends are apart
 totals_apart : (n m : ℕ) → m ≤ n → greatest_total n m ≡ least_total m + m * (n - m)
-totals_apart n m l =
-    greatest_total_is n m l ∙ apart (n - m) ∙ ap (λ k. k + m * (n - m)) (sym (least_total_is m))
-  where
-    apart : (d : ℕ) → place_sum (count_from (suc d) m) ≡ place_sum (count_from 1 m) + m * d
-    apart d = omega (arith, place_sum_count d m, place_sum_count 0 m)
+totals_apart n m l = omega (arith, greatest_total_is n m l, least_total_is m, place_sum_count (n - m) m, place_sum_count 0 m)
 
 -- the rank totals as a list that counts up
 pub rank_totals_are : (n m : ℕ) → rank_totals n m ≡ count_from (least_total m) (greatest_total n m + 1 - least_total m)
 rank_totals_are n m = counting_is (least_total m) (greatest_total n m + 1 - least_total m)
 
 pub length-rank_totals : (n m : ℕ) → m ≤ n → length (rank_totals n m) ≡ m * (n - m) + 1
-length-rank_totals n m l = ap length (rank_totals_are n m) ∙ length-count_from (least_total m) (greatest_total n m + 1 - least_total m) ∙ width (least_total m) (greatest_total n m) (m * (n - m)) (totals_apart n m l)
-  where
-    width : (a b c : ℕ) → b ≡ a + c → b + 1 - a ≡ c + 1
-    width a b c h = omega arith
+length-rank_totals n m l = ap length (rank_totals_are n m) ∙ length-count_from (least_total m) (greatest_total n m + 1 - least_total m) ∙ omega (arith, totals_apart n m l)
 
 place_sum_between : (n m : ℕ) (s : List ℕ) → Among 0 n m s → (least_total m ≤ place_sum s) × (place_sum s ≤ greatest_total n m)
 place_sum_between n m s h =
@@ -60,8 +50,4 @@ place_sum_between n m s h =
 pub in_rank_totals : (n m : ℕ) (s : List ℕ) → Among 0 n m s → In (place_sum s) (rank_totals n m)
 in_rank_totals n m s h =
     let b = place_sum_between n m s h in
-    subst (In (place_sum s)) (sym (rank_totals_are n m))
-    (in_count_from (place_sum s) (least_total m) (greatest_total n m + 1 - least_total m) b.0 (room (least_total m) (greatest_total n m) (place_sum s) b.0 b.1))
-  where
-    room : (a b v : ℕ) → a ≤ v → v ≤ b → v < a + (b + 1 - a)
-    room a b v l k = omega arith
+    subst (In (place_sum s)) (sym (rank_totals_are n m)) (in_count_from (place_sum s) (least_total m) (greatest_total n m + 1 - least_total m) b.0 (omega (arith, b.0, b.1)))

@@ -1,14 +1,15 @@
 -- Squeezing loses no set of the band, keeps a space a space, and ends where a settled space is in the band.
-use Rattle.std.proofs.Common.{◌≡◌, ℕ, zero, suc, ◌+◌, ◌<◌, ◌≤◌, Bool, true, false, cond, ◌&&◌, List, [], ◌∷◌, length, Some, None, Option, sym, refl, ap, ◌∙◌, subst, inl, inr, arith}
+use Rattle.std.proofs.Common.{◌≡◌, ℕ, zero, suc, ◌+◌, ◌<◌, ◌≤◌, Bool, true, cond, ◌&&◌, List, [], ◌∷◌, length, Some, None, Option, option_and_then, sym, refl, ap, ◌∙◌, subst, inl, inr, arith}
 use Rattle.std.specs.List.{AllByRecursion}
-use Rattle.std.proofs.lemmas.Bool.{cases_lt, both_ways, and_parts, and_from}
+use Rattle.std.specs.Cmp.Lexicographic.{bytes_decides}
+use Rattle.std.proofs.lemmas.Bool.{cond_both, cases_lt, both_ways, and_parts, and_from}
 use Rattle.measure.specs.Algebra.{Algebra, Row, Laws, Own, NotAbove}
 use Rattle.sets.specs.Sets.{Rows, total, in_band}
 use Rattle.sets.specs.Spaces.{Space, same}
-use Rattle.sets.proofs.Forms.{then, at, lifted, topped, count_from, count_down, least, greatest, widths, sweep, choices, raise, lower, pass, squeeze}
+use Rattle.sets.proofs.Forms.{at, lifted, topped, count_from, count_down, least, greatest, widths, sweep, choices, raise, lower, pass, squeeze}
 use Rattle.sets.proofs.Vectors.{Below, Rising, Upto, below_refl, below_trans, below_antisym, below_at, below_length, below_upto, rising_at, lifted-rising, lifted-least, lifted_more, lifted_same, at_lifted, topped-rising, topped_most, topped_less, topped_same, at_topped}
 use Rattle.sets.proofs.Totals.{total-own, total-climbs}
-use Rattle.sets.proofs.Choices.{Least, least_is, Greatest, greatest_is, count_from_below, count_down_below, same_true, same_self, widths_level}
+use Rattle.sets.proofs.Choices.{Least, least_is, Greatest, greatest_is, count_from_below, count_down_below, widths_level}
 
 -- a space of sets of m of n places
 pub record Valid (n m : ℕ) (s : Space) : Type 0 where
@@ -37,12 +38,6 @@ Tight S n m s (Some t) = Tighter S n m s t
 pub space_same : (s t : Space) → s.lo ≡ t.lo → s.hi ≡ t.hi → s ≡ t
 space_same s t p q = λ i. record { lo = p i; hi = q i }
 
-pub none_some : {A : Type 0} (t : A) → ◌≡◌ {A = Option A} None (Some t) → ⊥
-none_some t e = let z : ◌≡◌ {A = ℕ} 0 1 = cc in omega arith
-
-some_same : {A : Type 0} (t u : A) → ◌≡◌ {A = Option A} (Some t) (Some u) → t ≡ u
-some_same t u e = cc
-
 module _ (S : List ℕ → Type 0) (n m : ℕ) where
   tighter_self : (s : Space) → Valid n m s → Tighter S n m s s
   tighter_self s v = record { valid = v; up = below_refl s.lo; down = below_refl s.hi; keeps = λ x r i z. i }
@@ -56,7 +51,7 @@ module _ (S : List ℕ → Type 0) (n m : ℕ) where
     keeps = λ x r i z. k.keeps x r (h.keeps x r i z) z;
   }
 
-  tight_then : (s : Space) (q : Option Space) (f : Space → Option Space) → Tight S n m s q → ((t : Space) → Valid n m t → Tight S n m t (f t)) → Tight S n m s (then q f)
+  tight_then : (s : Space) (q : Option Space) (f : Space → Option Space) → Tight S n m s q → ((t : Space) → Valid n m t → Tight S n m t (f t)) → Tight S n m s (option_and_then f q)
   tight_then s None f h k = h
   tight_then s (Some t) f h k = tight_from s t (f t) h (k t h.valid)
 
@@ -68,8 +63,8 @@ module _ (S : List ℕ → Type 0) (n m : ℕ) where
   both_tighter s t h k = space_same t s (below_antisym t.lo s.lo k.up h.up) (below_antisym t.hi s.hi h.down k.down)
 
   -- where the second step comes back, neither moves
-  then_fixed : (s : Space) (q : Option Space) (f : Space → Option Space) → Tight S n m s q → ((t : Space) → Valid n m t → Tight S n m t (f t)) → then q f ≡ Some s → (q ≡ Some s) × (f s ≡ Some s)
-  then_fixed s None f h k e = absurd (none_some s e)
+  then_fixed : (s : Space) (q : Option Space) (f : Space → Option Space) → Tight S n m s q → ((t : Space) → Valid n m t → Tight S n m t (f t)) → option_and_then f q ≡ Some s → (q ≡ Some s) × (f s ≡ Some s)
+  then_fixed s None f h k e = cc
   then_fixed s (Some t) f h k e =
       let back : Tighter S n m t s = subst (Tight S n m t) e (k t h.valid) in
       let p : t ≡ s = both_tighter s t h back in
@@ -131,7 +126,7 @@ module _ (a : Algebra) (laws : Laws a) (xs : List Row) (rows : Rows a xs) (low h
   unfolding reaches
   raise_tight s i v l = go (least (reaches s i) (at s.lo i) (choices s i)) (least_is (reaches s i) (at s.lo i) (choices s i))
     where
-      go : (q : Option ℕ) → Least (reaches s i) (at s.lo i) (choices s i) q → Tight Solved (length xs) m s (then q (λ w. Some (record { lo = lifted s.lo i w; hi = s.hi })))
+      go : (q : Option ℕ) → Least (reaches s i) (at s.lo i) (choices s i) q → Tight Solved (length xs) m s (option_and_then (λ w. Some (record { lo = lifted s.lo i w; hi = s.hi })) q)
       go None h = λ x r ins z. h (at x i) (below_at s.lo x i ins.0) (omega (arith, below_at x s.hi i ins.1, at_below s i v)) (reaches_at s i v l x r ins z)
       go (Some w) h =
           let le : at s.lo i ≤ w = h.0 in
@@ -153,7 +148,7 @@ module _ (a : Algebra) (laws : Laws a) (xs : List Row) (rows : Rows a xs) (low h
   unfolding stays
   lower_tight s i v l = go (greatest (stays s i) (at s.lo i) (choices s i)) (greatest_is (stays s i) (at s.lo i) (choices s i))
     where
-      go : (q : Option ℕ) → Greatest (stays s i) (at s.lo i) (choices s i) q → Tight Solved (length xs) m s (then q (λ w. Some (record { lo = s.lo; hi = topped s.hi i w })))
+      go : (q : Option ℕ) → Greatest (stays s i) (at s.lo i) (choices s i) q → Tight Solved (length xs) m s (option_and_then (λ w. Some (record { lo = s.lo; hi = topped s.hi i w })) q)
       go None h = λ x r ins z. h (at x i) (below_at s.lo x i ins.0) (omega (arith, below_at x s.hi i ins.1, at_below s i v)) (stays_at s i v l x r ins z)
       go (Some w) h =
           let le : at s.lo i ≤ w = h.0 in
@@ -188,11 +183,9 @@ module _ (a : Algebra) (laws : Laws a) (xs : List Row) (rows : Rows a xs) (low h
 
   pub squeeze_tight : (n : ℕ) (s : Space) → Valid (length xs) m s → Tight Solved (length xs) m s (squeeze a xs low high n s)
   squeeze_tight zero s v = pass_tight s v
-  squeeze_tight (suc n) s v = tight_then Solved (length xs) m s (pass a xs low high s) (λ t. cond (same s.lo t.lo && same s.hi t.hi) (Some t) (squeeze a xs low high n t)) (pass_tight s v) (λ t w. again (same s.lo t.lo && same s.hi t.hi) t (squeeze a xs low high n t) w (squeeze_tight n t w))
-    where
-      again : (b : Bool) (t : Space) (q : Option Space) → Valid (length xs) m t → Tight Solved (length xs) m t q → Tight Solved (length xs) m t (cond b (Some t) q)
-      again true t q w h = tighter_self Solved (length xs) m t w
-      again false t q w h = h
+  squeeze_tight (suc n) s v =
+      tight_then Solved (length xs) m s (pass a xs low high s) (λ t. cond (same s.lo t.lo && same s.hi t.hi) (Some t) (squeeze a xs low high n t)) (pass_tight s v)
+      (λ t w. cond_both (same s.lo t.lo && same s.hi t.hi) (Some t) (squeeze a xs low high n t) (Tight Solved (length xs) m t) (λ _. tighter_self Solved (length xs) m t w) (λ _. squeeze_tight n t w))
 
   fixed_level : (s t : Space) → Valid (length xs) m s → Tighter Solved (length xs) m s t → pass a xs low high s ≡ Some t → widths s.lo s.hi ≤ widths t.lo t.hi → s ≡ t
   fixed_level s t v h e l =
@@ -207,28 +200,25 @@ module _ (a : Algebra) (laws : Laws a) (xs : List Row) (rows : Rows a xs) (low h
       go (Some t) e h = subst (λ u. pass a xs low high u ≡ Some t) (fixed_level s t v h e (omega arith)) e
   squeeze_fixed (suc n) s v l = go (pass a xs low high s) refl (pass_tight s v) (squeeze_fixed n)
     where
-      go : (q : Option Space) → pass a xs low high s ≡ q → Tight Solved (length xs) m s q → ((t : Space) → Valid (length xs) m t → widths t.lo t.hi ≤ n → Fixed a xs low high (squeeze a xs low high n t)) → Fixed a xs low high (then q (λ t. cond (same s.lo t.lo && same s.hi t.hi) (Some t) (squeeze a xs low high n t)))
+      go : (q : Option Space) → pass a xs low high s ≡ q → Tight Solved (length xs) m s q → ((t : Space) → Valid (length xs) m t → widths t.lo t.hi ≤ n → Fixed a xs low high (squeeze a xs low high n t)) → Fixed a xs low high (option_and_then (λ t. cond (same s.lo t.lo && same s.hi t.hi) (Some t) (squeeze a xs low high n t)) q)
       go None e h ih = tt
-      go (Some t) e h ih = test (same s.lo t.lo && same s.hi t.hi) refl
-        where
-          test : (b : Bool) → (same s.lo t.lo && same s.hi t.hi) ≡ b → Fixed a xs low high (cond b (Some t) (squeeze a xs low high n t))
-          test true f =
-              let p = and_parts (same s.lo t.lo) (same s.hi t.hi) f in
-              subst (λ u. pass a xs low high u ≡ Some t) (space_same s t (same_true s.lo t.lo p.0) (same_true s.hi t.hi p.1)) e
-          test false f = elim (cases_lt (widths t.lo t.hi) (widths s.lo s.hi)) [
+      go (Some t) e h ih =
+          cond_both (same s.lo t.lo && same s.hi t.hi) (Some t) (squeeze a xs low high n t) (Fixed a xs low high)
+          (λ f. let p = and_parts (same s.lo t.lo) (same s.hi t.hi) f in subst (λ u. pass a xs low high u ≡ Some t) (space_same s t ((bytes_decides s.lo t.lo).0 p.0) ((bytes_decides s.hi t.hi).0 p.1)) e)
+          (λ f. elim (cases_lt (widths t.lo t.hi) (widths s.lo s.hi)) [
             | inl k ↦ ih t h.valid (omega arith)
             | inr k ↦ absurd (both_ways (same s.lo t.lo && same s.hi t.hi) f
-                (subst (λ u. (same s.lo u.lo && same s.hi u.hi) ≡ true) (fixed_level s t v h e k) (and_from (same s.lo s.lo) (same s.hi s.hi) (same_self s.lo) (same_self s.hi))))
-          ]
+                (subst (λ u. (same s.lo u.lo && same s.hi u.hi) ≡ true) (fixed_level s t v h e k) (and_from (same s.lo s.lo) (same s.hi s.hi) ((bytes_decides s.lo s.lo).1 refl) ((bytes_decides s.hi s.hi).1 refl))))
+          ])
 
   raise_fixed : (s : Space) (i : ℕ) → Valid (length xs) m s → i < m → raise a xs low high s i ≡ Some s → reaches s i (at s.lo i) ≡ true
   unfolding reaches
   raise_fixed s i v l e = go (least (reaches s i) (at s.lo i) (choices s i)) (least_is (reaches s i) (at s.lo i) (choices s i)) e
     where
-      go : (q : Option ℕ) → Least (reaches s i) (at s.lo i) (choices s i) q → ◌≡◌ {A = Option Space} (then q (λ w. Some (record { lo = lifted s.lo i w; hi = s.hi }))) (Some s) → reaches s i (at s.lo i) ≡ true
-      go None h f = absurd (none_some s f)
+      go : (q : Option ℕ) → Least (reaches s i) (at s.lo i) (choices s i) q → ◌≡◌ {A = Option Space} (option_and_then (λ w. Some (record { lo = lifted s.lo i w; hi = s.hi })) q) (Some s) → reaches s i (at s.lo i) ≡ true
+      go None h f = cc
       go (Some w) h f =
-          let p : lifted s.lo i w ≡ s.lo = ap (λ (t : Space). t.lo) (some_same (record { lo = lifted s.lo i w; hi = s.hi }) s f) in
+          let p : lifted s.lo i w ≡ s.lo = cc in
           let q : w ≡ at s.lo i = sym (at_lifted s.lo i w (omega (arith, v.size))) ∙ ap (λ t. at t i) p in
           subst (λ u. reaches s i u ≡ true) q h.2
 
@@ -236,10 +226,10 @@ module _ (a : Algebra) (laws : Laws a) (xs : List Row) (rows : Rows a xs) (low h
   unfolding stays
   lower_fixed s i v l e = go (greatest (stays s i) (at s.lo i) (choices s i)) (greatest_is (stays s i) (at s.lo i) (choices s i)) e
     where
-      go : (q : Option ℕ) → Greatest (stays s i) (at s.lo i) (choices s i) q → ◌≡◌ {A = Option Space} (then q (λ w. Some (record { lo = s.lo; hi = topped s.hi i w }))) (Some s) → stays s i (at s.hi i) ≡ true
-      go None h f = absurd (none_some s f)
+      go : (q : Option ℕ) → Greatest (stays s i) (at s.lo i) (choices s i) q → ◌≡◌ {A = Option Space} (option_and_then (λ w. Some (record { lo = s.lo; hi = topped s.hi i w })) q) (Some s) → stays s i (at s.hi i) ≡ true
+      go None h f = cc
       go (Some w) h f =
-          let p : topped s.hi i w ≡ s.hi = ap (λ (t : Space). t.hi) (some_same (record { lo = s.lo; hi = topped s.hi i w }) s f) in
+          let p : topped s.hi i w ≡ s.hi = cc in
           let q : w ≡ at s.hi i = sym (at_topped s.hi i w (omega (arith, v.size, below_length s.lo s.hi v.between))) ∙ ap (λ t. at t i) p in
           subst (λ u. stays s i u ≡ true) q h.2
 

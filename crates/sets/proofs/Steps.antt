@@ -1,10 +1,11 @@
 -- A sweep that writes one position at a time comes to the same as one that pushes the others along.
-use Rattle.std.proofs.Common.{◌≡◌, ℕ, zero, suc, ◌+◌, ◌-◌, ◌<◌, ◌≤◌, min, max, Bool, List, [], ◌∷◌, ◌++◌, length, set, Some, None, Option, sym, refl, ap, ◌∙◌, subst, ap₂, arith}
-use Rattle.std.proofs.lemmas.List.{append_assoc, append-nil, set_at, get_or_at, length_push}
+use Rattle.std.proofs.Common.{◌≡◌, ℕ, zero, suc, ◌+◌, ◌-◌, ◌<◌, ◌≤◌, min, max, Bool, List, [], ◌∷◌, ◌++◌, length, get_or, set, take, Some, None, Option, option_and_then, sym, refl, ap, ◌∙◌, subst, ap₂, arith}
+use Rattle.std.proofs.lemmas.List.{append_assoc, append-nil, set_at, get_or_at, length_push, take_all, take_more, length-take-le}
+use Rattle.std.proofs.ByRecursion.{All-get_or, All-take}
 use Rattle.measure.specs.Algebra.{Algebra, Row}
 use Rattle.sets.specs.Sets.{total}
 use Rattle.sets.specs.Spaces.{Space, space}
-use Rattle.sets.proofs.Forms.{then, at, above, lifted, topped, count_from, count_down, least, greatest, sweep, raise, lower}
+use Rattle.sets.proofs.Forms.{at, above, lifted, topped, count_from, count_down, least, greatest, sweep, raise, lower}
 use Rattle.sets.proofs.Vectors.{Below, Rising, Upto, below_length, rising_at, above_same}
 use Rattle.sets.proofs.Choices.{Least, least_is, Greatest, greatest_is}
 use Rattle.sets.proofs.Squeeze.{Valid}
@@ -28,12 +29,12 @@ module _ (a : Algebra) (xs : List Row) (low high : Row) where
   abbrev pub raise_at : Space → ℕ → Option Space
   raise_at s i =
       let from : ℕ = max (at s.lo i) (after s.lo i) in
-      then (least (λ v. a.not_above low (total a xs (topped s.hi i v))) from (suc (at s.hi i) - from)) (λ v. Some (space (set s.lo i v) s.hi))
+      option_and_then (λ v. Some (space (set s.lo i v) s.hi)) (least (λ v. a.not_above low (total a xs (topped s.hi i v))) from (suc (at s.hi i) - from))
 
   -- lowers position i, and writes it alone
   abbrev pub lower_at : Space → ℕ → Option Space
   lower_at s i =
-      then (greatest (λ v. a.not_above (total a xs (lifted s.lo i v)) high) (at s.lo i) (suc (before s.hi i) - at s.lo i)) (λ v. Some (space s.lo (set s.hi i v)))
+      option_and_then (λ v. Some (space s.lo (set s.hi i v))) (greatest (λ v. a.not_above (total a xs (lifted s.lo i v)) high) (at s.lo i) (suc (before s.hi i) - at s.lo i))
 
 -- the greater of two bounds decides
 above-above : (w v : ℕ) (s : List ℕ) → w ≤ v → above v (above w s) ≡ above v s
@@ -94,15 +95,10 @@ before_at [] h s (suc k) e = absurd (omega arith)
 before_at (x ∷ q) h s zero e = absurd (omega arith)
 before_at (x ∷ q) h s (suc k) e = before_at q h s k (omega arith)
 
-snoc : (p : List ℕ) (n : ℕ) → length p ≡ suc n → (q : List ℕ) × (h : ℕ) × (p ≡ q ++ h ∷ []) × (length q ≡ n)
-snoc [] n e = absurd (omega arith)
-snoc (x ∷ []) n e = ([], x, refl, omega arith)
-snoc (x ∷ y ∷ p) zero e = absurd (omega arith)
-snoc (x ∷ y ∷ p) (suc n) e = let r = snoc (y ∷ p) n (omega arith) in (x ∷ r.0, r.1, ap (λ t. x ∷ t) r.2, ap suc r.3)
-
-all_snoc : (n : ℕ) (q : List ℕ) (h : ℕ) → Upto n (q ++ h ∷ []) → (Upto n q) × (h ≤ n)
-all_snoc n [] h u = (tt, u.0)
-all_snoc n (x ∷ q) h u = let r = all_snoc n q h u.1 in ((u.0, r.0), r.1)
+-- two steps that go on alike from each value come to the same
+then_same : {A B C : Type 0} (q : Option A) (g h : A → B) (f f' : B → Option C) → ((v : A) → q ≡ Some v → f (g v) ≡ f' (h v)) → option_and_then f (option_and_then (λ v. Some (g v)) q) ≡ option_and_then f' (option_and_then (λ v. Some (h v)) q)
+then_same None g h f f' e = refl
+then_same (Some v) g h f f' e = e v refl
 
 module _ (a : Algebra) (xs : List Row) (low high : Row) where
   -- low can be reached with position i at v
@@ -121,10 +117,13 @@ module _ (a : Algebra) (xs : List Row) (low high : Row) where
   raises_same zero k b p (x ∷ s) hi e f g = absurd (omega arith)
   raises_same (suc n) k b p [] hi e f g = absurd (omega arith)
   raises_same (suc n) k b p (x ∷ s) hi e f g =
-      ap (λ u. then (then (least (reach hi k) u (suc (at hi k) - u)) (λ v. Some (space (set (p ++ x ∷ s) k v) hi))) (sweep (raise_at a xs low high) (count_from (suc k) n))) from_old
-      ∙ go (least (reach hi k) w (suc (at hi k) - w)) (least_is (reach hi k) w (suc (at hi k) - w)) (λ v. raises_same n (suc k) v (p ++ v ∷ []) s hi (length_push p v ∙ (let z : length p + 1 ≡ suc k = omega arith in z)) (omega arith)
-      (λ t. ap suc (ap (λ y. at y k) (append_assoc p (v ∷ []) t) ∙ get_or_at p v t 0 k e)))
-      ∙ sym (ap (λ u. then (then (least (reach hi k) u (suc (at hi k) - u)) (λ v. Some (space (lifted (p ++ above b (x ∷ s)) k v) hi))) (sweep (raise a xs low high) (count_from (suc k) n))) from_new)
+      ap (λ u. option_and_then (sweep (raise_at a xs low high) (count_from (suc k) n)) (option_and_then (λ v. Some (space (set (p ++ x ∷ s) k v) hi)) (least (reach hi k) u (suc (at hi k) - u)))) from_old
+      ∙ then_same (least (reach hi k) w (suc (at hi k) - w)) (λ v. space (set (p ++ x ∷ s) k v) hi) (λ v. space (lifted (p ++ above b (x ∷ s)) k v) hi) (sweep (raise_at a xs low high) (count_from (suc k) n)) (sweep (raise a xs low high) (count_from (suc k) n))
+      (λ v q.
+      ap (λ t. sweep (raise_at a xs low high) (count_from (suc k) n) (space t hi)) (set_at p x s v k e ∙ sym (append_assoc p (v ∷ []) s))
+      ∙ raises_same n (suc k) v (p ++ v ∷ []) s hi (omega (arith, length_push p v)) (omega arith) (λ t. ap suc (ap (λ y. at y k) (append_assoc p (v ∷ []) t) ∙ get_or_at p v t 0 k e))
+      ∙ ap (λ t. sweep (raise a xs low high) (count_from (suc k) n) (space t hi)) (append_assoc p (v ∷ []) (above v s) ∙ ap (λ t. p ++ v ∷ t) (sym (above-above w v s (subst (Least (reach hi k) w (suc (at hi k) - w)) q (least_is (reach hi k) w (suc (at hi k) - w))).0)) ∙ sym (lifted_at p w (above w s) k v e)))
+      ∙ sym (ap (λ u. option_and_then (sweep (raise a xs low high) (count_from (suc k) n)) (option_and_then (λ v. Some (space (lifted (p ++ above b (x ∷ s)) k v) hi)) (least (reach hi k) u (suc (at hi k) - u)))) from_new)
     where
       w : ℕ
       w = max (suc b) x
@@ -135,15 +134,6 @@ module _ (a : Algebra) (xs : List Row) (low high : Row) where
       from_new : at (p ++ above b (x ∷ s)) k ≡ w
       from_new = get_or_at p (max (suc b) x) (above (max (suc b) x) s) 0 k e
 
-      go : (q : Option ℕ) → Least (reach hi k) w (suc (at hi k) - w) q →
-          ((v : ℕ) → sweep (raise_at a xs low high) (count_from (suc k) n) (space ((p ++ v ∷ []) ++ s) hi) ≡ sweep (raise a xs low high) (count_from (suc k) n) (space ((p ++ v ∷ []) ++ above v s) hi)) →
-          then (then q (λ v. Some (space (set (p ++ x ∷ s) k v) hi))) (sweep (raise_at a xs low high) (count_from (suc k) n)) ≡ then (then q (λ v. Some (space (lifted (p ++ above b (x ∷ s)) k v) hi))) (sweep (raise a xs low high) (count_from (suc k) n))
-      go None h ih = refl
-      go (Some v) h ih =
-          ap (λ t. sweep (raise_at a xs low high) (count_from (suc k) n) (space t hi)) (set_at p x s v k e ∙ sym (append_assoc p (v ∷ []) s))
-          ∙ ih v
-          ∙ ap (λ t. sweep (raise a xs low high) (count_from (suc k) n) (space t hi)) (append_assoc p (v ∷ []) (above v s) ∙ ap (λ t. p ++ v ∷ t) (sym (above-above w v s h.0)) ∙ sym (lifted_at p w (above w s) k v e))
-
   -- the first n positions, those after as they are: lowering them one by one, or from a list that is already pushed down
   lowers_same : (n c : ℕ) (lo p s : List ℕ) → length p ≡ n → Upto (length xs) p → ((h : ℕ) → h ≤ length xs → before (h ∷ s) 0 ≡ min (c - 1) h) →
       sweep (lower_at a xs low high) (count_down n) (space lo (p ++ s)) ≡ sweep (lower a xs low high) (count_down n) (space lo (under p c ++ s))
@@ -152,25 +142,30 @@ module _ (a : Algebra) (xs : List Row) (low high : Row) where
   lowers_same zero c lo (x ∷ p) s e u g = absurd (omega arith)
   lowers_same (suc n) c lo p s e u g =
       ap (λ t. sweep (lower_at a xs low high) (count_down (suc n)) (space lo t)) hi_old
-      ∙ ap (λ z. then (then (greatest (stay lo n) (at lo n) (suc z - at lo n)) (λ v. Some (space lo (set (q ++ h ∷ s) n v)))) (sweep (lower_at a xs low high) (count_down n))) (before_at q h s n lq ∙ g h uq.1)
-      ∙ go (greatest (stay lo n) (at lo n) (suc w - at lo n)) (greatest_is (stay lo n) (at lo n) (suc w - at lo n)) (λ v. lowers_same n v lo q (v ∷ s) lq uq.0 (λ y _. let z : min y (v - 1) ≡ min (v - 1) y = omega arith in z))
-      ∙ sym (ap (λ z. then (then (greatest (stay lo n) (at lo n) (suc z - at lo n)) (λ v. Some (space lo (topped (under q (c - 1) ++ w ∷ s) n v)))) (sweep (lower a xs low high) (count_down n))) (get_or_at (under q (c - 1)) w s 0 n lu))
+      ∙ ap (λ z. option_and_then (sweep (lower_at a xs low high) (count_down n)) (option_and_then (λ v. Some (space lo (set (q ++ h ∷ s) n v))) (greatest (stay lo n) (at lo n) (suc z - at lo n)))) (before_at q h s n lq ∙ g h uq.1)
+      ∙ then_same (greatest (stay lo n) (at lo n) (suc w - at lo n)) (λ v. space lo (set (q ++ h ∷ s) n v)) (λ v. space lo (topped (under q (c - 1) ++ w ∷ s) n v)) (sweep (lower_at a xs low high) (count_down n)) (sweep (lower a xs low high) (count_down n))
+      (λ v r.
+      let k = subst (Greatest (stay lo n) (at lo n) (suc w - at lo n)) r (greatest_is (stay lo n) (at lo n) (suc w - at lo n)) in
+      ap (λ t. sweep (lower_at a xs low high) (count_down n) (space lo t)) (set_at q h s v n lq)
+      ∙ lowers_same n v lo q (v ∷ s) lq uq.0 (λ y _. let z : min y (v - 1) ≡ min (v - 1) y = omega arith in z)
+      ∙ ap (λ t. sweep (lower a xs low high) (count_down n) (space lo t)) (ap (λ t. t ++ v ∷ s) (sym (under_under q (c - 1) v (omega (arith, k.1)))) ∙ sym (topped_at (under q (c - 1)) w s n v lu)))
+      ∙ sym (ap (λ z. option_and_then (sweep (lower a xs low high) (count_down n)) (option_and_then (λ v. Some (space lo (topped (under q (c - 1) ++ w ∷ s) n v))) (greatest (stay lo n) (at lo n) (suc z - at lo n)))) (get_or_at (under q (c - 1)) w s 0 n lu))
       ∙ sym (ap (λ t. sweep (lower a xs low high) (count_down (suc n)) (space lo t)) hi_new)
     where
       q : List ℕ
-      q = (snoc p n e).0
+      q = take n p
 
       h : ℕ
-      h = (snoc p n e).1
+      h = get_or p n 0
 
       is : p ≡ q ++ h ∷ []
-      is = (snoc p n e).2
+      is = sym (take_all (n + 1) p (omega arith)) ∙ take_more p n 0 (omega arith)
 
       lq : length q ≡ n
-      lq = (snoc p n e).3
+      lq = length-take-le n p (omega arith)
 
       uq : (Upto (length xs) q) × (h ≤ length xs)
-      uq = all_snoc (length xs) q h (subst (Upto (length xs)) is u)
+      uq = (All-take (λ x. x ≤ length xs) n p u, All-get_or (λ x. x ≤ length xs) p n 0 (omega arith) u)
 
       w : ℕ
       w = min (c - 1) h
@@ -183,15 +178,6 @@ module _ (a : Algebra) (xs : List Row) (low high : Row) where
 
       hi_new : under p c ++ s ≡ under q (c - 1) ++ w ∷ s
       hi_new = ap (λ t. under t c ++ s) is ∙ ap (λ t. t ++ s) (under_push q h c) ∙ append_assoc (under q (c - 1)) (w ∷ []) s
-
-      go : (r : Option ℕ) → Greatest (stay lo n) (at lo n) (suc w - at lo n) r →
-          ((v : ℕ) → sweep (lower_at a xs low high) (count_down n) (space lo (q ++ v ∷ s)) ≡ sweep (lower a xs low high) (count_down n) (space lo (under q v ++ v ∷ s))) →
-          then (then r (λ v. Some (space lo (set (q ++ h ∷ s) n v)))) (sweep (lower_at a xs low high) (count_down n)) ≡ then (then r (λ v. Some (space lo (topped (under q (c - 1) ++ w ∷ s) n v)))) (sweep (lower a xs low high) (count_down n))
-      go None k ih = refl
-      go (Some v) k ih =
-          ap (λ t. sweep (lower_at a xs low high) (count_down n) (space lo t)) (set_at q h s v n lq)
-          ∙ ih v
-          ∙ ap (λ t. sweep (lower a xs low high) (count_down n) (space lo t)) (ap (λ t. t ++ v ∷ s) (sym (under_under q (c - 1) v (omega (arith, k.1)))) ∙ sym (topped_at (under q (c - 1)) w s n v lu))
 
 -- where all before position i is settled, no more than position i is written
 pub topped-settled : (b : ℕ) (lo hi : List ℕ) (i v : ℕ) → Rising b lo → Below lo hi → i < length lo → Settled i lo hi → at lo i ≤ v → topped hi i v ≡ set hi i v

@@ -1,5 +1,5 @@
 -- Totals go up with the places, where the rows climb.
-use Rattle.std.proofs.Common.{ℕ, zero, suc, ◌-◌, ◌<◌, ◌≤◌, List, [], ◌∷◌, length, get_or, subst, arith}
+use Rattle.std.proofs.Common.{ℕ, zero, suc, ◌-◌, ◌<◌, ◌≤◌, List, [], ◌∷◌, length, get_or, arith}
 use Rattle.std.specs.List.{AllByRecursion}
 use Rattle.std.proofs.ByRecursion.{All-get_or}
 use Rattle.measure.specs.Algebra.{Algebra, Row, Laws, Own, NotAbove}
@@ -49,5 +49,5 @@ module _ (a : Algebra) (laws : Laws a) where
         let oT : Own a T = total-own y t q.1 w.1 in
         let first : NotAbove a (a.plus X S) (a.plus Y S) = laws.plus_keeps X Y S oX oY oS (place-climbs x y (omega arith) h.0 w.0) in
         let rest : NotAbove a (a.plus S Y) (a.plus T Y) = laws.plus_keeps S T Y oS oT oY (total-climbs x y s t r.1 q.1 u.1 w.1 h.1) in
-        let rest' : NotAbove a (a.plus Y S) (a.plus Y T) = subst (λ z. NotAbove a z (a.plus Y T)) (laws.plus_comm S Y oS oY) (subst (λ z. NotAbove a (a.plus S Y) z) (laws.plus_comm T Y oT oY) rest) in
+        let rest' : NotAbove a (a.plus Y S) (a.plus Y T) = cc (laws.plus_comm S Y oS oY, laws.plus_comm T Y oT oY, rest) in
         laws.transitive (a.plus X S) (a.plus Y S) (a.plus Y T) (laws.plus_own X S oX oS) (laws.plus_own Y S oY oS) (laws.plus_own Y T oY oT) first rest'

@@ -1,8 +1,11 @@
 -- A trace tells the solutions, in order, and is less than twice as long as there are sets.
 use Rattle.std.proofs.Common.{◌≡◌, ℕ, zero, suc, ◌+◌, ◌-◌, ◌*◌, ◌<◌, ◌≤◌, Bool, true, false, ◌&&◌, eqb, leb, List, [], ◌∷◌, ◌++◌, length, Some, None, filter, Option, sym, refl, ap, ◌∙◌, subst, arith}
+use Rattle.std.specs.Cmp.Lexicographic.{pointwise}
 use Rattle.std.specs.List.{flat_map, AllByRecursion}
 use Rattle.std.proofs.ByRecursion.{All-weaker}
-use Rattle.std.proofs.lemmas.Bool.{both_ways, and_from, and_parts, le-leb, leb-true, eq-eqb, eqb-true}
+use Rattle.std.proofs.lemmas.List.Sums.{length-filter, count_by-le-length}
+use Rattle.std.proofs.lemmas.Bool.Decides.{nat_tests}
+use Rattle.std.proofs.lemmas.Bool.{false_from_ne_true, and_from, and_parts, eq-eqb, eqb-true}
 use Rattle.measure.specs.Algebra.{Algebra, Row, Laws, Own}
 use Rattle.sets.specs.Sets.{Rows, sets, total, in_band, solutions}
 use Rattle.sets.specs.Spaces.{Space}
@@ -12,26 +15,24 @@ use Rattle.sets.proofs.Vectors.{Below, Rising, Upto, below_refl, below_trans, be
 use Rattle.sets.proofs.Members.{Among, sets_among, sets_all, In, Lex, lex_irreflexive, sets_sorted}
 use Rattle.sets.proofs.Squeeze.{Valid, Inside, Tighter, Tight, Solves, Fixed, squeeze_tight, squeeze_fixed, settled_solves}
 use Rattle.sets.proofs.Opens.{Settled, Opens, open_is, settled_open, settled_within, settled_more, lex_at}
-use Rattle.sets.proofs.Kept.{bool_same, is_false, kept_same, kept_none, kept_one, kept_has, kept_fewer, kept_most, joined_same, joined_twice, kept_split}
+use Rattle.sets.proofs.Kept.{bool_same, kept_same, kept_none, kept_one, kept_fewer, joined_same, joined_twice, kept_split}
+use Rattle.sets.proofs.Listed.{in_some, kept_in}
 
 -- the test of Below
 abbrev leqs : List ℕ → List ℕ → Bool
-leqs [] [] = true
-leqs [] (y ∷ t) = false
-leqs (x ∷ s) [] = false
-leqs (x ∷ s) (y ∷ t) = leb x y && leqs s t
+leqs s t = pointwise leb s t
 
 leqs_true : (s t : List ℕ) → leqs s t ≡ true → Below s t
 leqs_true [] [] e = tt
-leqs_true [] (y ∷ t) e = both_ways false refl e
-leqs_true (x ∷ s) [] e = both_ways false refl e
-leqs_true (x ∷ s) (y ∷ t) e = let p = and_parts (leb x y) (leqs s t) e in (leb-true x y p.0, leqs_true s t p.1)
+leqs_true [] (y ∷ t) e = cc
+leqs_true (x ∷ s) [] e = cc
+leqs_true (x ∷ s) (y ∷ t) e = grind (arith, nat_tests, leqs_true s t)
 
 leqs_from : (s t : List ℕ) → Below s t → leqs s t ≡ true
 leqs_from [] [] h = refl
 leqs_from [] (y ∷ t) h = absurd h
 leqs_from (x ∷ s) [] h = absurd h
-leqs_from (x ∷ s) (y ∷ t) h = and_from (leb x y) (leqs s t) (le-leb x y h.0) (leqs_from s t h.1)
+leqs_from (x ∷ s) (y ∷ t) h = grind (arith, nat_tests, leqs_from s t h.1, h.0)
 
 -- inside, and good
 within : (List ℕ → Bool) → Space → List ℕ → Bool
@@ -39,14 +40,11 @@ within good s x = (leqs s.lo x && leqs x s.hi) && good x
 
 within_parts : (good : List ℕ → Bool) (s : Space) (x : List ℕ) → within good s x ≡ true → (Inside s x) × (good x ≡ true)
 unfolding within
-within_parts good s x e =
-    let p = and_parts (leqs s.lo x && leqs x s.hi) (good x) e in
-    let q = and_parts (leqs s.lo x) (leqs x s.hi) p.0 in
-    ((leqs_true s.lo x q.0, leqs_true x s.hi q.1), p.1)
+within_parts good s x e = grind (arith, leqs_true s.lo x, leqs_true x s.hi)
 
 within_from : (good : List ℕ → Bool) (s : Space) (x : List ℕ) → Inside s x → good x ≡ true → within good s x ≡ true
 unfolding within
-within_from good s x i g = and_from (leqs s.lo x && leqs x s.hi) (good x) (and_from (leqs s.lo x) (leqs x s.hi) (leqs_from s.lo x i.0) (leqs_from x s.hi i.1)) g
+within_from good s x i g = cc (leqs_from s.lo x i.0, leqs_from x s.hi i.1)
 
 pub child_valid : (n m : ℕ) (t : Space) (i v : ℕ) → Valid n m t → i < m → at t.lo i ≤ v → v ≤ at t.hi i → Valid n m (child t i v)
 child_valid n m t i v w l f g =
@@ -108,6 +106,10 @@ values t i l = from (at t.lo i) (choices t i) (omega arith) (omega arith)
     from a zero f g = tt
     from a (suc n) f g = ((f, omega arith), from (suc a) n (omega arith) (omega arith))
 
+-- two lists made from these values alike
+pub joined_values : {Y : Type 0} (t : Space) (i : ℕ) (f g : ℕ → List Y) → at t.lo i < at t.hi i → ((v : ℕ) → at t.lo i ≤ v → v ≤ at t.hi i → f v ≡ g v) → flat_map f (count_from (at t.lo i) (choices t i)) ≡ flat_map g (count_from (at t.lo i) (choices t i))
+joined_values t i f g o h = joined_same f g (λ v. (at t.lo i ≤ v) × (v ≤ at t.hi i)) (λ v b. h v b.0 b.1) (count_from (at t.lo i) (choices t i)) (values t i o)
+
 pub count_rising : (b m : ℕ) → Rising b (count_from (suc b) m)
 count_rising b zero = tt
 count_rising b (suc m) = (omega arith, count_rising (suc b) m)
@@ -148,6 +150,10 @@ somes-flat_map f (v ∷ vs) = somes-append (f v) (flat_map f vs) ∙ ap (λ ys. 
 pub members : (n m : ℕ) → AllByRecursion (Among 0 n m) (sets 1 n m)
 members n m = subst (λ k. AllByRecursion (Among 0 k m) (sets 1 n m)) (let e : 0 + n ≡ n = omega arith in e) (sets_among 0 n m)
 
+-- what holds of all sets of m of n places, in their list
+pub of_sets : (n m : ℕ) (P : List ℕ → Type 0) → ((x : List ℕ) → Among 0 n m x → P x) → AllByRecursion P (sets 1 n m)
+of_sets n m P f = All-weaker (Among 0 n m) P f (sets 1 n m) (members n m)
+
 pub is_member : (n m : ℕ) (x : List ℕ) → Among 0 n m x → In x (sets 1 n m)
 is_member n m x h = sets_all 0 n m x (subst (λ k. Among 0 k m x) (let e : n ≡ 0 + n = omega arith in e) h)
 
@@ -158,8 +164,8 @@ lo_among n m t v = record { rising = v.rising_lo; upto = below_upto n t.lo t.hi 
 children : (good : List ℕ → Bool) (n m : ℕ) (t : Space) (i : ℕ) → Valid n m t → Opens t.lo t.hi (Some i) →
     filter (within good t) (sets 1 n m) ≡ flat_map (λ v. filter (within good (child t i v)) (sets 1 n m)) (count_from (at t.lo i) (choices t i))
 children good n m t i w o =
-    kept_split Lex (within good t) (λ x. at x i) mono (at t.lo i) (choices t i) (sets 1 n m) (sets_sorted 0 n m) (All-weaker (Among 0 n m) (λ x. within good t x ≡ true → (at t.lo i ≤ at x i) × (at x i < at t.lo i + choices t i)) range (sets 1 n m) (members n m))
-    ∙ joined_same (λ v. filter (λ x. within good t x && eqb (at x i) v) (sets 1 n m)) (λ v. filter (within good (child t i v)) (sets 1 n m)) (λ v. (at t.lo i ≤ v) × (v ≤ at t.hi i)) each (count_from (at t.lo i) (choices t i)) (values t i o.1)
+    kept_split Lex (within good t) (λ x. at x i) mono (at t.lo i) (choices t i) (sets 1 n m) (sets_sorted 0 n m) (of_sets n m (λ x. within good t x ≡ true → (at t.lo i ≤ at x i) × (at x i < at t.lo i + choices t i)) range)
+    ∙ joined_values t i (λ v. filter (λ x. within good t x && eqb (at x i) v) (sets 1 n m)) (λ v. filter (within good (child t i v)) (sets 1 n m)) o.1 each
   where
     l : i < m
     l = omega (arith, o.0, w.size)
@@ -177,8 +183,8 @@ children good n m t i w o =
         let g : at x i ≤ at t.hi i = below_at x t.hi i p.1 in
         (f, omega (arith, o.1))
 
-    each : (v : ℕ) → (at t.lo i ≤ v) × (v ≤ at t.hi i) → filter (λ x. within good t x && eqb (at x i) v) (sets 1 n m) ≡ filter (within good (child t i v)) (sets 1 n m)
-    each v h = kept_same (λ x. within good t x && eqb (at x i) v) (within good (child t i v)) (sets 1 n m) (All-weaker (Among 0 n m) (λ x. (within good t x && eqb (at x i) v) ≡ within good (child t i v) x) (λ x am. sym (child_within good n m t i v w l h.0 h.1 x am)) (sets 1 n m) (members n m))
+    each : (v : ℕ) → at t.lo i ≤ v → v ≤ at t.hi i → filter (λ x. within good t x && eqb (at x i) v) (sets 1 n m) ≡ filter (within good (child t i v)) (sets 1 n m)
+    each v f g = kept_same (λ x. within good t x && eqb (at x i) v) (within good (child t i v)) (sets 1 n m) (of_sets n m (λ x. (within good t x && eqb (at x i) v) ≡ within good (child t i v) x) (λ x am. sym (child_within good n m t i v w l f g x am)))
 
 module _ (a : Algebra) (laws : Laws a) (xs : List Row) (rows : Rows a xs) (low high : Row) (low_own : Own a low) (high_own : Own a high) (m : ℕ) where
   -- the total of x lies in the band
@@ -193,15 +199,14 @@ module _ (a : Algebra) (laws : Laws a) (xs : List Row) (rows : Rows a xs) (low h
 
   squeezed_none : (s : Space) → Valid (length xs) m s → Tight (Solves a xs low high) (length xs) m s None → filter (within good s) (sets 1 (length xs) m) ≡ []
   unfolding good
-  squeezed_none s v h = kept_none (within good s) (sets 1 (length xs) m) (All-weaker (Among 0 (length xs) m) (λ x. within good s x ≡ false) (λ x am. is_false (within good s x) (λ e. let p = within_parts good s x e in h x am.rising p.0 p.1)) (sets 1 (length xs) m) (members (length xs) m))
+  squeezed_none s v h = kept_none (within good s) (sets 1 (length xs) m) (of_sets (length xs) m (λ x. within good s x ≡ false) (λ x am. false_from_ne_true (within good s x) (λ e. let p = within_parts good s x e in h x am.rising p.0 p.1)))
 
   squeezed_some : (s t : Space) → Valid (length xs) m s → Tighter (Solves a xs low high) (length xs) m s t → filter (within good s) (sets 1 (length xs) m) ≡ filter (within good t) (sets 1 (length xs) m)
   unfolding good
-  squeezed_some s t v h = kept_same (within good s) (within good t) (sets 1 (length xs) m) (All-weaker (Among 0 (length xs) m) (λ x. within good s x ≡ within good t x)
+  squeezed_some s t v h = kept_same (within good s) (within good t) (sets 1 (length xs) m) (of_sets (length xs) m (λ x. within good s x ≡ within good t x)
       (λ x am. bool_same (within good s x) (within good t x)
       (λ e. let p = within_parts good s x e in within_from good t x (h.keeps x am.rising p.0 p.1) p.1)
-      (λ e. let p = within_parts good t x e in within_from good s x (below_trans s.lo t.lo x h.up p.0.0, below_trans x t.hi s.hi p.0.1 h.down) p.1))
-      (sets 1 (length xs) m) (members (length xs) m))
+      (λ e. let p = within_parts good t x e in within_from good s x (below_trans s.lo t.lo x h.up p.0.0, below_trans x t.hi s.hi p.0.1 h.down) p.1)))
 
   settled_one : (t : Space) → Valid (length xs) m t → 0 < m → pass a xs low high t ≡ Some t → t.lo ≡ t.hi → filter (within good t) (sets 1 (length xs) m) ≡ t.lo ∷ []
   unfolding good
@@ -227,9 +232,8 @@ module _ (a : Algebra) (laws : Laws a) (xs : List Row) (rows : Rows a xs) (low h
               let zt : Settled k t.lo t.hi = settled_within k s.lo t.lo t.hi s.hi h.up h.valid.between h.down z in
               let ki : k ≤ i = settled_open k t.lo t.hi i zt o.0 o.1 in
               somes-flat_map (λ v. explore a xs low high d (child t i v)) (count_from (at t.lo i) (choices t i))
-              ∙ joined_same (λ w. somes (explore a xs low high d (child t i w))) (λ w. filter (within good (child t i w)) (sets 1 (length xs) m)) (λ w. (at t.lo i ≤ w) × (w ≤ at t.hi i))
-              (λ w b. ih (suc i) (child t i w) pos (child_valid (length xs) m t i w h.valid il b.0 b.1) (child-settled (length xs) m t i w h.valid il b.0 b.1 o.2) il (omega arith))
-              (count_from (at t.lo i) (choices t i)) (values t i o.1)
+              ∙ joined_values t i (λ w. somes (explore a xs low high d (child t i w))) (λ w. filter (within good (child t i w)) (sets 1 (length xs) m)) o.1
+              (λ w f g. ih (suc i) (child t i w) pos (child_valid (length xs) m t i w h.valid il f g) (child-settled (length xs) m t i w h.valid il f g o.2) il (omega arith))
               ∙ sym (children good (length xs) m t i h.valid o)
 
   -- every set passes
@@ -238,11 +242,11 @@ module _ (a : Algebra) (laws : Laws a) (xs : List Row) (rows : Rows a xs) (low h
 
   holds-lo : (t : Space) → Valid (length xs) m t → 1 ≤ length (filter (within yes t) (sets 1 (length xs) m))
   unfolding yes
-  holds-lo t v = kept_has (within yes t) t.lo (sets 1 (length xs) m) (is_member (length xs) m t.lo (lo_among (length xs) m t v)) (within_from yes t t.lo (below_refl t.lo, v.between) refl)
+  holds-lo t v = in_some t.lo (filter (within yes t) (sets 1 (length xs) m)) (kept_in (within yes t) t.lo (sets 1 (length xs) m) (is_member (length xs) m t.lo (lo_among (length xs) m t v)) (within_from yes t t.lo (below_refl t.lo, v.between) refl))
 
   fewer : (s t : Space) → Tighter (Solves a xs low high) (length xs) m s t → length (filter (within yes t) (sets 1 (length xs) m)) ≤ length (filter (within yes s) (sets 1 (length xs) m))
-  fewer s t h = kept_fewer (within yes t) (within yes s) (sets 1 (length xs) m) (All-weaker (Among 0 (length xs) m) (λ x. within yes t x ≡ true → within yes s x ≡ true)
-      (λ x am e. let p = within_parts yes t x e in within_from yes s x (below_trans s.lo t.lo x h.up p.0.0, below_trans x t.hi s.hi p.0.1 h.down) p.1) (sets 1 (length xs) m) (members (length xs) m))
+  fewer s t h = kept_fewer (within yes t) (within yes s) (sets 1 (length xs) m) (of_sets (length xs) m (λ x. within yes t x ≡ true → within yes s x ≡ true)
+      (λ x am e. let p = within_parts yes t x e in within_from yes s x (below_trans s.lo t.lo x h.up p.0.0, below_trans x t.hi s.hi p.0.1 h.down) p.1))
 
   -- fewer spaces than twice the sets of places in the first
   explore_counts : (d : ℕ) (s : Space) → Valid (length xs) m s → suc (length (explore a xs low high d s)) ≤ 2 * length (filter (within yes s) (sets 1 (length xs) m))
@@ -289,9 +293,9 @@ module _ (a : Algebra) (laws : Laws a) (xs : List Row) (rows : Rows a xs) (low h
   unfolding good
   trace_finds pos l =
       explore_finds (suc m) 0 start pos (start_valid l) tt (omega arith) (omega arith)
-      ∙ kept_same (within good start) good (sets 1 (length xs) m) (All-weaker (Among 0 (length xs) m) (λ x. within good start x ≡ good x)
-      (λ x am. bool_same (within good start x) (good x) (λ e. (within_parts good start x e).1) (λ e. within_from good start x (start_all x l am) e)) (sets 1 (length xs) m) (members (length xs) m))
+      ∙ kept_same (within good start) good (sets 1 (length xs) m) (of_sets (length xs) m (λ x. within good start x ≡ good x)
+      (λ x am. bool_same (within good start x) (good x) (λ e. (within_parts good start x e).1) (λ e. within_from good start x (start_all x l am) e)))
 
   -- and is shorter than twice the number of sets
   pub trace_counts : m ≤ length xs → length (trace a xs low high m) ≤ 2 * length (sets 1 (length xs) m) - 1
-  trace_counts l = omega (arith, explore_counts (suc m) start (start_valid l), kept_most (within yes start) (sets 1 (length xs) m))
+  trace_counts l = omega (arith, explore_counts (suc m) start (start_valid l), length-filter (within yes start) (sets 1 (length xs) m), count_by-le-length (within yes start) (sets 1 (length xs) m))

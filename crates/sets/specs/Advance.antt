@@ -1,4 +1,4 @@
--- One call of an advance, over what a Search has still to come: it takes items off the front until a set, the end of its
+-- One call of an advance, over what a search has still to come: it takes items off the front until a set, the end of its
 -- allowance, or the end of the trace. The items taken are its steps.
 use Rattle.std.specs.Prelude.{ℕ, zero, suc, ◌+◌, List, [], ◌∷◌, ◌++◌, length, drop, Some, None}
 use Rattle.sets.specs.Trace.{Trace}

@@ -1,7 +1,7 @@
--- Several columns at once, and the Search for sets whose totals lie in the band in each. Entries stand by rising number, so a
+-- Several columns at once, and the search for sets whose totals lie in the band in each. Entries stand by rising number, so a
 -- column may fall from one place to the next. Each column is shadowed: to the amount at place p the column's largest fall is
 -- added p times, and so a shadowed column never falls. The rank of an entry is its place. Sets with one rank total have their
--- shadowed totals raised by one and the same row, so there is one straight Search for each rank total.
+-- shadowed totals raised by one and the same row, so there is one straight search for each rank total.
 use Rattle.std.specs.Prelude.{ℕ, zero, suc, ◌+◌, ◌-◌, ◌*◌, ◌/◌, ◌&&◌, List, [], ◌∷◌, length, ℤ, pos, ◌+ℤ◌, ◌-ℤ◌, ◌*ℤ◌, filter, ◌==◌}
 use Rattle.std.specs.Int.{int_max}
 use Rattle.std.specs.List.{range_with_len, flat_map}
@@ -51,7 +51,7 @@ greatest_total n m = m * (2 * n - m + 1) / 2
 abbrev pub rank_totals : ℕ → ℕ → List ℕ
 rank_totals n m = range_with_len (least_total m) (greatest_total n m + 1 - least_total m)
 
--- what a Search over k + 1 columns has to come: one straight Search for each rank total, rising
+-- what a search over k + 1 columns has to come: one straight search for each rank total, rising
 abbrev pub crossed : ℕ → List Row → Row → Row → ℕ → Trace
 crossed k xs low high m =
     let α : Row = falls k xs in

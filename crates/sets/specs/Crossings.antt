@@ -1,4 +1,4 @@
--- What holds of crossed Searches, for entries with k + 1 columns. Here each column stands by itself.
+-- What holds of crossed searches, for entries with k + 1 columns. Here each column stands by itself.
 use Rattle.std.specs.Prelude.{◌≡◌, ℕ, suc, ◌+◌, ◌-◌, ◌*◌, ◌<◌, ◌≤◌, ◌⊎◌, List, [], ◌∷◌, length, ℤ, pos, ◌+ℤ◌, ◌≤ℤ◌, slice_index_or}
 use Rattle.std.specs.List.{AllByRecursion}
 use Rattle.measure.specs.Algebra.{Row}

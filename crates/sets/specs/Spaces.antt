@@ -1,7 +1,8 @@
 -- Spaces of sets, and squeezing. A space gives each position i, from 1 to m, a lowest and a highest place; it stands for
 -- the sets whose i-th place lies between the two. Squeezing raises the lowest places and lowers the highest ones as far as
 -- a band from low to high allows, without losing a set whose total lies in the band.
-use Rattle.std.specs.Prelude.{ℕ, zero, suc, ◌+◌, ◌-◌, min, max, Bool, true, false, cond, ◌&&◌, List, [], ◌∷◌, map, length, Some, None, sum, Option, ◌==◌, nat_le, nat_lt, slice_index, slice_set}
+use Rattle.std.specs.Prelude.{ℕ, zero, suc, ◌+◌, ◌-◌, min, max, Bool, cond, ◌&&◌, List, [], ◌∷◌, map, length, Some, None, sum, Option, ◌==◌, nat_le, nat_lt, slice_index, slice_set}
+use Rattle.std.specs.Cmp.Lexicographic.{pointwise}
 use Rattle.std.specs.List.{range_with_len}
 use Rattle.measure.specs.Algebra.{Algebra, Row}
 use Rattle.sets.specs.Sets.{total}
@@ -78,10 +79,7 @@ lower_from a xs high lo zero hi = Some hi
 lower_from a xs high lo (suc n) hi = elim (lower a xs high lo hi (suc n)) [ None ↦ None | Some v ↦ lower_from a xs high lo n (slice_set hi n v) ]
 
 abbrev pub same : List ℕ → List ℕ → Bool
-same [] [] = true
-same [] (y ∷ ys) = false
-same (x ∷ xs) [] = false
-same (x ∷ xs) (y ∷ ys) = x == y && same xs ys
+same xs ys = pointwise ◌==◌ xs ys
 
 -- by how much the highest places exceed the lowest, over all positions
 abbrev pub widths : List ℕ → List ℕ → ℕ

@@ -1,4 +1,4 @@
--- What a Search still has to come, its trace: one item for each space to be examined, the set that the space holds or
+-- What a search still has to come, its trace: one item for each space to be examined, the set that the space holds or
 -- nothing. A space is examined before its children, and a child's whole tree before the next child.
 use Rattle.std.specs.Prelude.{ℕ, zero, suc, ◌+◌, ◌-◌, List, [], ◌∷◌, ◌++◌, length, Some, None, Option}
 use Rattle.std.specs.List.{range_with_len}
@@ -32,7 +32,7 @@ module _ (a : Algebra) (xs : List Row) (low high : Row) where
     ]
   ]
 
-  -- the items of a Search for sets of m of the entries xs
+  -- the items of a search for sets of m of the entries xs
   abbrev pub trace : ℕ → Trace
   trace m = explore (m + 1) (space (range_with_len 1 m) (range_with_len (length xs - m + 1) m))
 

@@ -1,27 +1,23 @@
-// Sets of places and the Search for those whose totals lie in a band: definitions, and what holds of them.
+// Sets of places and the search for those whose totals lie in a band: definitions, and what holds of them.
 #![tactic(auto)]
 
 ghost use Rattle.sets.specs.Statements.{Complements, TraceFinds, TraceCounts};
 ghost use Rattle.sets.specs.Crossings.{CrossedFinds, CrossedSound, CrossedComplete, CrossedOrder, CrossedOnce, CrossedCounts};
 
-// What holds of every Search, of its definitions: its sets are the solutions in place order, its steps are bounded, and complements mirror.
-pub fn traces_are_exact() -> u8
+// What holds of every search, of its definitions: its sets are the solutions in place order, its steps are bounded, and complements mirror.
+pub fn traces_are_exact()
     ensures finds { TraceFinds }
     ensures counts { TraceCounts }
     ensures complements { Complements }
-{
-    0
-}
+{}
 
-// What holds of every crossed Search, of its definitions: its sets are exactly those whose totals lie in the band in each column, each
+// What holds of every crossed search, of its definitions: its sets are exactly those whose totals lie in the band in each column, each
 // once and in order, and its steps are bounded.
-pub fn crossings_are_exact() -> u8
+pub fn crossings_are_exact()
     ensures finds { CrossedFinds }
     ensures sound { CrossedSound }
     ensures complete { CrossedComplete }
     ensures order { CrossedOrder }
     ensures once { CrossedOnce }
     ensures counts { CrossedCounts }
-{
-    0
-}
+{}
