@@ -1,5 +1,5 @@
 // The crossed rolls that are asked.
-use crate::driving::{Advances, Drive, Failure, Run};
+use crate::driving::{Drive, Failure, Run};
 use crate::rolls::{Roll, fill};
 use crate::walking::{Asked, Line, Row};
 use crossed::asked::Question;
@@ -7,20 +7,9 @@ use crossed::entries::{Amounts, Columns, Entry};
 use crossed::rolls;
 use crossing::asking::check;
 use crossing::ranks::Ranked;
-use crossing::state::{Search, begin};
-use exploring::state::Answer;
+use crossing::state::begin;
 use measure::Measure;
 use roll::refusal::Refusal;
-
-impl<'t> Advances for Search<'t> {
-    fn places(&self) -> usize {
-        self.places()
-    }
-
-    fn advance(&mut self, allowance: u32, page: &mut [u16]) -> Result<Answer, Refusal> {
-        self.advance(allowance, page)
-    }
-}
 
 impl From<Row> for Amounts {
     fn from(row: Row) -> Amounts {
@@ -74,5 +63,9 @@ pub fn ask_crossed(
     let question = question_of(asked);
     let mut table = [Ranked::nothing(); 38];
     check(&roll, question, &table)?;
-    drive.run(begin(&roll, question, &mut table))
+    let mut search = begin(&roll, question, &mut table);
+    drive.run(
+        asked.size,
+        |allowance, page| search.advance(allowance, page),
+    )
 }

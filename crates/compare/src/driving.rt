@@ -39,15 +39,6 @@ pub fn expect(holds: bool) -> Result<(), Failure> {
     holds.then_some(()).ok_or(Failure::Wrong)
 }
 
-// A search that can be advanced.
-pub trait Advances: Drop {
-    // How many places each of its sets has.
-    fn places(&self) -> usize;
-
-    // Goes on by so many steps at most.
-    fn advance(&mut self, allowance: u32, page: &mut [u16]) -> Result<Answer, Refusal>;
-}
-
 // What a search told in all: its sets in turn, and its steps.
 #[derive(Drop)]
 pub struct Run {
@@ -86,19 +77,25 @@ impl<'d> Drive<'d> {
         }
     }
 
-    // Advances a search to its end. Each advance keeps to its allowance, and is spent only with all of it and with
-    // steps still to come.
-    pub fn run<S: Advances>(mut self, mut search: S) -> Result<Run, Failure> {
+    // Advances a search for sets of so many places to its end. Each advance keeps to its allowance, and is spent only
+    // with all of it and with steps still to come.
+    pub fn run<F: FnMut(u32, &mut [u16]) -> Result<Answer, Refusal>>(
+        mut self,
+        size: usize,
+        mut advance: F,
+    ) -> Result<Run, Failure>
+        requires { F.IsAlwaysCallable advance }
+    {
         let mut sets = Vec::new(self.heap);
         let mut steps = 0u32;
         for _ in 0..MOST_ADVANCES {
             let allowance = self.allowance();
             let mut page = [0; 9];
-            let answer = search.advance(allowance, &mut page)?;
+            let answer = advance(allowance, &mut page)?;
             steps = steps.saturating_add(answer.steps);
             expect(answer.steps <= allowance)?;
             match answer.told {
-                Told::Set => sets.push(set_on(&page, search.places())?)?,
+                Told::Set => sets.push(set_on(&page, size)?)?,
                 Told::Spent => {
                     set_on(&page, 0)?;
                     expect(answer.steps == allowance)?;

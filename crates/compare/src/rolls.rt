@@ -1,7 +1,6 @@
 // The rolls that are asked, and the straight ones: of amounts, and of two amounts side by side.
-use crate::driving::{Advances, Drive, Failure, Run};
+use crate::driving::{Drive, Failure, Run};
 use crate::walking::{Asked, Line, Row};
-use exploring::state::{Answer, Search};
 use measure::{Cents, Measure, Pair};
 use question::asking::Question;
 use question::beginning::{begin, check};
@@ -29,16 +28,6 @@ pub fn fill<R: Roll>(roll: &mut R, book: &[Line]) -> Result<(), Refusal> {
         }
     }
     Ok(())
-}
-
-impl<'t, M: Measure> Advances for Search<'t, M> {
-    fn places(&self) -> usize {
-        self.places()
-    }
-
-    fn advance(&mut self, allowance: u32, page: &mut [u16]) -> Result<Answer, Refusal> {
-        self.advance(allowance, page)
-    }
 }
 
 impl From<Row> for Cents {
@@ -106,7 +95,11 @@ pub fn ask_amounts(book: &[Line], asked: Asked, drive: Drive) -> Result<Run, Fai
     let mut table = [Cents::nothing(); 38];
     let mut roll = straight::open(&mut cells);
     let question = accepted(&mut roll, book, asked, &table)?;
-    drive.run(begin(&roll, question, &mut table))
+    let mut search = begin(&roll, question, &mut table);
+    drive.run(
+        search.places(),
+        |allowance, page| search.advance(allowance, page),
+    )
 }
 
 // The run of a question to a roll of two amounts side by side.
@@ -115,5 +108,9 @@ pub fn ask_pairs(book: &[Line], asked: Asked, drive: Drive) -> Result<Run, Failu
     let mut table = [Pair::<Cents, Cents>::nothing(); 38];
     let mut roll = straight::open(&mut cells);
     let question = accepted(&mut roll, book, asked, &table)?;
-    drive.run(begin(&roll, question, &mut table))
+    let mut search = begin(&roll, question, &mut table);
+    drive.run(
+        search.places(),
+        |allowance, page| search.advance(allowance, page),
+    )
 }
