@@ -1,71 +1,71 @@
 // The crossed rolls that are asked.
-use crate::dice::Dice;
-use crate::driving::{Advances, Run, drive};
+use crate::driving::{Drive, Failure, Run};
+use crate::rolls::{Roll, fill};
 use crate::walking::{Asked, Line, Row};
 use crossed::asked::Question;
 use crossed::entries::{Amounts, Columns, Entry};
-use crossed::rolls::{Roll, open};
+use crossed::rolls;
 use crossing::asking::check;
 use crossing::ranks::Ranked;
-use crossing::state::{Search, begin};
-use exploring::state::Answer;
+use crossing::state::begin;
 use measure::Measure;
 use roll::refusal::Refusal;
-use std::alloc::Global;
 
-impl<'t> Advances for Search<'t> {
-    fn go_on(&mut self, allowance: u32, page: &mut [u16]) -> Result<Answer, Refusal> {
-        self.advance(allowance, page)
-    }
-}
-
-// The amounts of a row.
-fn amounts_of(row: Row) -> Amounts {
-    Amounts {
-        first: row[0],
-        second: row[1],
-        third: row[2],
-        fourth: row[3],
-    }
-}
-
-// Enters all lines, and strikes those that are struck.
-fn fill(roll: &mut Roll, book: &[Line]) -> Result<(), Refusal> {
-    for line in book {
-        let amounts = amounts_of(line.row);
-        roll.enter(Entry {
-            number: line.number,
-            amounts,
-        })?;
-    }
-    for line in book {
-        if line.struck {
-            roll.strike(line.number)?;
+impl From<Row> for Amounts {
+    fn from(row: Row) -> Amounts {
+        let [first, second, third, fourth] = row.columns;
+        Amounts {
+            first,
+            second,
+            third,
+            fourth,
         }
     }
-    Ok(())
+}
+
+// The entry of a crossed roll with a number and a row.
+fn entry_of(number: u32, row: Row) -> Entry {
+    Entry {
+        number,
+        amounts: Amounts::from(row),
+    }
+}
+
+// The question that is put to a crossed roll.
+fn question_of(asked: Asked) -> Question {
+    Question {
+        size: asked.size,
+        low: Amounts::from(asked.low),
+        high: Amounts::from(asked.high),
+    }
+}
+
+impl<'a> Roll for rolls::Roll<'a> {
+    fn enter_line(&mut self, line: Line) -> Result<(), Refusal> {
+        self.enter(entry_of(line.number, line.row))
+    }
+
+    fn strike_number(&mut self, number: u32) -> Result<(), Refusal> {
+        self.strike(number)
+    }
 }
 
 // The run of a question to a crossed roll.
 pub fn ask_crossed(
-    heap: Global,
-    dice: &mut Dice,
     columns: Columns,
     book: &[Line],
     asked: Asked,
-    known: Option<u32>,
-) -> Option<Run> {
-    let amounts = amounts_of([0; 4]);
-    let mut cells = [Entry { number: 0, amounts }; 8];
-    let mut roll = open(&mut cells, columns);
-    fill(&mut roll, book).ok()?;
-    let question = Question {
-        size: asked.size as usize,
-        low: amounts_of(asked.low),
-        high: amounts_of(asked.high),
-    };
+    drive: Drive,
+) -> Result<Run, Failure> {
+    let mut cells = [entry_of(0, Row::nothing()); 8];
+    let mut roll = rolls::open(&mut cells, columns);
+    fill(&mut roll, book)?;
+    let question = question_of(asked);
     let mut table = [Ranked::nothing(); 38];
-    check(&roll, question, &table).ok()?;
+    check(&roll, question, &table)?;
     let mut search = begin(&roll, question, &mut table);
-    drive(heap, dice, &mut search, asked.size, known)
+    drive.run(
+        asked.size,
+        |allowance, page| search.advance(allowance, page),
+    )
 }

@@ -10,31 +10,29 @@ mod rolls;
 mod walking;
 
 use cases::{Compared, compare};
+use crossed::entries::Columns;
 use dice::Dice;
 use std::io;
 
 // How many cases each kind has.
-const CASES: u32 = 4_000;
+const CASES: usize = 4_000;
 
-// Compares all cases of a kind, and prints how many agreed. A crossed roll has one to four columns in turn.
-fn report(rt: &HostRuntime, dice: &mut Dice, name: &str, kind: Compared) -> io::Result<()> {
-    let mut agreed = 0u32;
-    for i in 0..CASES {
-        let what = match kind {
-            Compared::Crossed(_) => Compared::Crossed((i % 4) as u8 + 1),
-            _ => kind,
-        };
-        if compare(rt.alloc(), dice, what).is_some() {
-            agreed = agreed.saturating_add(1);
-        }
-    }
+// Compares cases of these kinds in turn, and prints how many agreed.
+fn report(rt: &HostRuntime, dice: &mut Dice, name: &str, kinds: &[Compared]) -> io::Result<()> {
+    let agreed = kinds
+        .iter()
+        .cycle()
+        .take(CASES)
+        .filter(|what| compare(rt.alloc(), dice, **what).is_ok())
+        .count();
     println!(rt; "{name} {agreed} of {CASES}")
 }
 
 fn main(rt: HostRuntime) -> io::Result<()> {
     let mut dice = Dice::new();
-    report(&rt, &mut dice, "amounts", Compared::Amounts)?;
-    report(&rt, &mut dice, "pairs", Compared::Pairs)?;
-    report(&rt, &mut dice, "complements", Compared::Complements)?;
-    report(&rt, &mut dice, "crossed", Compared::Crossed(1))
+    let crossed = [Columns::One, Columns::Two, Columns::Three, Columns::Four];
+    report(&rt, &mut dice, "amounts", &[Compared::Amounts])?;
+    report(&rt, &mut dice, "pairs", &[Compared::Pairs])?;
+    report(&rt, &mut dice, "complements", &[Compared::Complements])?;
+    report(&rt, &mut dice, "crossed", &crossed.map(Compared::Crossed))
 }

@@ -1,105 +1,116 @@
-// The rolls that are asked: of amounts, of two amounts side by side, and crossed ones.
-use crate::dice::Dice;
-use crate::driving::{Advances, Run, drive};
+// The rolls that are asked, and the straight ones: of amounts, and of two amounts side by side.
+use crate::driving::{Drive, Failure, Run};
 use crate::walking::{Asked, Line, Row};
-use exploring::state::{Answer, Search};
 use measure::{Cents, Measure, Pair};
-use question::asking::{Question, Side};
+use question::asking::Question;
 use question::beginning::{begin, check};
 use roll::refusal::Refusal;
-use roll::straight::{Entry, Roll, open};
-use std::alloc::Global;
+use roll::straight;
+use roll::straight::Entry;
 
-impl<'t, M: Measure> Advances for Search<'t, M> {
-    fn go_on(&mut self, allowance: u32, page: &mut [u16]) -> Result<Answer, Refusal> {
-        self.advance(allowance, page)
-    }
-}
+// A roll that lines can be entered on and struck from.
+pub trait Roll {
+    // Enters the line.
+    fn enter_line(&mut self, line: Line) -> Result<(), Refusal>;
 
-// A measure whose values stand for rows.
-trait Kind: Measure {
-    // The value of a row.
-    fn of(row: Row) -> Self;
-}
-
-impl Kind for Cents {
-    fn of(row: Row) -> Cents {
-        Cents { value: row[0] }
-    }
-}
-
-impl Kind for Pair<Cents, Cents> {
-    fn of(row: Row) -> Pair<Cents, Cents> {
-        Pair {
-            first: Cents { value: row[0] },
-            second: Cents { value: row[1] },
-        }
-    }
+    // Strikes the number.
+    fn strike_number(&mut self, number: u32) -> Result<(), Refusal>;
 }
 
 // Enters all lines, and strikes those that are struck.
-fn fill<M: Kind>(roll: &mut Roll<M>, book: &[Line]) -> Result<(), Refusal> {
+pub fn fill<R: Roll>(roll: &mut R, book: &[Line]) -> Result<(), Refusal> {
     for line in book {
-        let value = M::of(line.row);
-        roll.enter(Entry {
-            number: line.number,
-            value,
-        })?;
+        roll.enter_line(*line)?;
     }
     for line in book {
         if line.struck {
-            roll.strike(line.number)?;
+            roll.strike_number(line.number)?;
         }
     }
     Ok(())
 }
 
-// The question that is put to a straight roll.
-fn question_of<M: Kind>(asked: Asked) -> Question<M> {
-    Question {
-        side: if asked.left { Side::Left } else { Side::Paid },
-        size: asked.size as usize,
-        low: M::of(asked.low),
-        high: M::of(asked.high),
+impl From<Row> for Cents {
+    fn from(row: Row) -> Cents {
+        Cents {
+            value: row.columns[0],
+        }
     }
 }
 
-// The run of a question to a roll of amounts.
-pub fn ask_amounts(
-    heap: Global,
-    dice: &mut Dice,
+impl From<Row> for Pair<Cents, Cents> {
+    fn from(row: Row) -> Pair<Cents, Cents> {
+        let [first, second, ..] = row.columns;
+        Pair {
+            first: Cents { value: first },
+            second: Cents { value: second },
+        }
+    }
+}
+
+// The entry of a straight roll with a number and a row.
+fn entry_of<M: Measure + From<Row>>(number: u32, row: Row) -> Entry<M> {
+    Entry {
+        number,
+        value: M::from(row),
+    }
+}
+
+// The question that is put to a straight roll.
+fn question_of<M: Measure + From<Row>>(asked: Asked) -> Question<M> {
+    Question {
+        side: asked.side,
+        size: asked.size,
+        low: M::from(asked.low),
+        high: M::from(asked.high),
+    }
+}
+
+impl<'a, M: Measure + From<Row>> Roll for straight::Roll<'a, M> {
+    fn enter_line(&mut self, line: Line) -> Result<(), Refusal> {
+        self.enter(entry_of(line.number, line.row))
+    }
+
+    fn strike_number(&mut self, number: u32) -> Result<(), Refusal> {
+        self.strike(number)
+    }
+}
+
+// The question, where the roll accepts it after all lines are entered, and those that are struck are struck.
+fn accepted<M: Measure + From<Row>>(
+    roll: &mut straight::Roll<M>,
     book: &[Line],
     asked: Asked,
-    known: Option<u32>,
-) -> Option<Run> {
-    let value = Cents::nothing();
-    let mut cells = [Entry { number: 0, value }; 8];
-    let mut roll = open(&mut cells);
-    fill(&mut roll, book).ok()?;
-    let question = question_of(asked);
-    let mut table = [value; 38];
-    check(&roll, question, &table).ok()?;
+    table: &[M],
+) -> Result<Question<M>, Refusal> {
+    fill(roll, book)?;
+    check(roll, question_of(asked), table)?;
+    Ok(question_of(asked))
+}
+
+// The run of a question to a roll of amounts.
+// Kept: a function for each measure, since one for any measure does not know that its search fits in memory.
+pub fn ask_amounts(book: &[Line], asked: Asked, drive: Drive) -> Result<Run, Failure> {
+    let mut cells = [entry_of(0, Row::nothing()); 8];
+    let mut table = [Cents::nothing(); 38];
+    let mut roll = straight::open(&mut cells);
+    let question = accepted(&mut roll, book, asked, &table)?;
     let mut search = begin(&roll, question, &mut table);
-    let size = search.places().min(8) as u32;
-    drive(heap, dice, &mut search, size, known)
+    drive.run(
+        search.places(),
+        |allowance, page| search.advance(allowance, page),
+    )
 }
 
 // The run of a question to a roll of two amounts side by side.
-pub fn ask_pairs(
-    heap: Global,
-    dice: &mut Dice,
-    book: &[Line],
-    asked: Asked,
-    known: Option<u32>,
-) -> Option<Run> {
-    let value = Pair::<Cents, Cents>::nothing();
-    let mut cells = [Entry { number: 0, value }; 8];
-    let mut roll = open(&mut cells);
-    fill(&mut roll, book).ok()?;
-    let question = question_of(asked);
-    let mut table = [value; 38];
-    check(&roll, question, &table).ok()?;
+pub fn ask_pairs(book: &[Line], asked: Asked, drive: Drive) -> Result<Run, Failure> {
+    let mut cells = [entry_of(0, Row::nothing()); 8];
+    let mut table = [Pair::<Cents, Cents>::nothing(); 38];
+    let mut roll = straight::open(&mut cells);
+    let question = accepted(&mut roll, book, asked, &table)?;
     let mut search = begin(&roll, question, &mut table);
-    let size = search.places().min(8) as u32;
-    drive(heap, dice, &mut search, size, known)
+    drive.run(
+        search.places(),
+        |allowance, page| search.advance(allowance, page),
+    )
 }

@@ -1,11 +1,35 @@
-// The walk over all sets of at most eight entries, each added up by itself. None: there is no memory for it.
-//
-// A set of places is kept as bits: place 1 has the bit 128, place 8 the bit 1. So of two sets of one size the greater
-// number comes first in place order, since it has the smaller place where they first differ.
-use std::alloc::Global;
+// The walk over all sets of at most eight entries, each added up by itself.
+use question::asking::Side;
+use std::alloc::{AllocError, Global};
 
 // Amounts in four columns; those that a roll does not have are zero.
-pub type Row = [i64; 4];
+#[derive(Clone, Copy, PartialEq, Eq, PartialOrd, Ord)]
+pub struct Row {
+    pub columns: [i64; 4],
+}
+
+impl Row {
+    // The row of zeros.
+    pub fn nothing() -> Row {
+        Row { columns: [0; 4] }
+    }
+
+    // The sum of two rows.
+    fn plus(mut self, other: Row) -> Row {
+        for (sum, amount) in self.columns.iter_mut().zip(other.columns) {
+            *sum = sum.saturating_add(amount);
+        }
+        self
+    }
+
+    // Whether no amount is above that of the other row in its column.
+    fn not_above(self, other: Row) -> bool {
+        self.columns
+            .iter()
+            .zip(other.columns)
+            .all(|(amount, most)| *amount <= most)
+    }
+}
 
 // An entry. Lines compare as their places do: on a straight roll the key is 0, and they follow their amounts, then their
 // numbers; on a crossed roll the key is the number.
@@ -20,110 +44,101 @@ pub struct Line {
 // Asks for sets of so many entries, with a total from low to high in each column.
 #[derive(Clone, Copy)]
 pub struct Asked {
-    pub left: bool,
-    pub size: u32,
+    pub side: Side,
+    pub size: usize,
     pub low: Row,
     pub high: Row,
 }
 
-// The set of all places.
-pub fn whole(lines: &[Line]) -> u32 {
-    let mut set = 0;
-    let mut bit = 128;
-    for _ in lines {
-        set |= bit;
-        bit /= 2;
+impl Asked {
+    // Whether a total lies in the band, in each column.
+    fn admits(&self, total: Row) -> bool {
+        self.low.not_above(total) && total.not_above(self.high)
     }
-    set
 }
 
-// The sum of two rows.
-fn plus(a: Row, b: Row) -> Row {
-    let mut sum = [0; 4];
-    for i in 0..4 {
-        sum[i] = a[i].saturating_add(b[i]);
-    }
-    sum
+// A set of places, as bits: place 1 has the bit 128, place 8 the bit 1. So of two sets of one size the greater number
+// comes first in place order, since it has the smaller place where they first differ.
+#[derive(Clone, Copy, PartialEq, Eq)]
+pub struct Places {
+    pub bits: u32,
 }
 
-// What the entries of a set come to.
-pub fn total(lines: &[Line], set: u32) -> Row {
-    let mut sum = [0; 4];
-    let mut bit = 128;
-    for line in lines {
-        if set & bit != 0 {
-            let more = plus(sum, line.row);
-            sum = more;
-        }
-        bit /= 2;
+impl Places {
+    // The set of no place.
+    pub fn none() -> Places {
+        Places { bits: 0 }
     }
-    sum
-}
 
-// Whether a row lies in the band, in each column.
-fn lies_in(asked: Asked, row: Row) -> bool {
-    for i in 0..4 {
-        if row[i] < asked.low[i] || asked.high[i] < row[i] {
-            return false;
+    // The set of all places where so many entries stand.
+    pub fn all(count: usize) -> Places {
+        Places {
+            bits: 255 & !(255 >> count.min(8)),
         }
     }
-    true
-}
 
-// All sets of so many of the entries, in place order.
-pub fn all_sets(heap: Global, lines: &[Line], size: u32) -> Option<Vec<u32>> {
-    let whole = whole(lines);
-    let mut sets = Vec::new(heap);
-    for set in (0..256u32).rev() {
-        if set & whole == set && set.count_ones() == size {
-            sets.push(set).ok()?;
+    // The set with one place more.
+    pub fn with(self, place: u16) -> Places {
+        Places {
+            bits: self.bits | 256 >> place.min(8),
         }
     }
-    Some(sets)
+
+    // Whether the place is in the set.
+    fn contains(self, place: usize) -> bool {
+        256 >> place.min(8) & self.bits != 0
+    }
+
+    // How many places the set has.
+    pub fn size(self) -> usize {
+        self.bits.count_ones() as usize
+    }
+
+    // The sum of its places.
+    pub fn place_sum(self) -> usize {
+        (1..=8)
+            .filter(|place| self.contains(*place))
+            .fold(0, usize::saturating_add)
+    }
+
+    // What the entries at its places come to.
+    pub fn total(self, lines: &[Line]) -> Row {
+        lines
+            .iter()
+            .zip(1..)
+            .filter(|(_, place)| self.contains(*place))
+            .fold(Row::nothing(), |sum, (line, _)| sum.plus(line.row))
+    }
+}
+
+// All sets of so many of the places, in place order.
+pub fn all_sets(heap: Global, all: Places, size: usize) -> Result<Vec<Places>, AllocError> {
+    (0..256)
+        .rev()
+        .map(|bits| Places { bits })
+        .filter(|set| set.bits & all.bits == set.bits && set.size() == size)
+        .collect(heap)
 }
 
 // Those of the sets whose totals lie in the band.
-pub fn in_band(heap: Global, lines: &[Line], sets: &[u32], asked: Asked) -> Option<Vec<u32>> {
-    let mut found = Vec::new(heap);
-    for set in sets {
-        if lies_in(asked, total(lines, *set)) {
-            found.push(*set).ok()?;
-        }
-    }
-    Some(found)
-}
-
-// The sum of the places of a set.
-fn place_sum(set: u32) -> u32 {
-    let mut sum = 0u32;
-    let mut bit = 128;
-    for place in 1..9u32 {
-        if set & bit != 0 {
-            sum = sum.saturating_add(place);
-        }
-        bit /= 2;
-    }
-    sum
-}
-
-// The same sets by the sums of their places, and else as they come.
-pub fn by_place_sum(heap: Global, sets: &[u32]) -> Option<Vec<u32>> {
-    let mut sorted = Vec::new(heap);
-    for sum in 0..37 {
-        for set in sets {
-            if place_sum(*set) == sum {
-                sorted.push(*set).ok()?;
-            }
-        }
-    }
-    Some(sorted)
+pub fn in_band(
+    heap: Global,
+    lines: &[Line],
+    sets: &[Places],
+    asked: Asked,
+) -> Result<Vec<Places>, AllocError> {
+    sets.iter()
+        .copied()
+        .filter(|set| asked.admits(set.total(lines)))
+        .collect(heap)
 }
 
 // The complements of the sets, back to front.
-pub fn complements(heap: Global, whole: u32, sets: &[u32]) -> Option<Vec<u32>> {
-    let mut others = Vec::new(heap);
-    for set in sets.iter().rev() {
-        others.push(whole ^ *set).ok()?;
-    }
-    Some(others)
+pub fn complements(heap: Global, all: Places, sets: &[Places]) -> Result<Vec<Places>, AllocError> {
+    sets.iter()
+        .rev()
+        .map(|set| Places {
+            bits: all.bits ^ set.bits,
+        })
+        .collect(heap)
 }
