@@ -23,7 +23,7 @@ impl Compared {
         match self {
             Compared::Amounts | Compared::Complements => 1,
             Compared::Pairs => 2,
-            Compared::Crossed(columns) => columns as usize + 1,
+            Compared::Crossed(columns) => usize::from(columns.count()),
         }
     }
 

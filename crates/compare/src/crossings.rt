@@ -1,9 +1,10 @@
 // The crossed rolls that are asked.
 use crate::driving::{Drive, Failure, Run};
-use crate::rolls::{Roll, fill};
+use crate::rolls::{Roll, band_of, entry_of, fill};
 use crate::walking::{Asked, Line, Row};
 use crossed::asked::Question;
-use crossed::entries::{Amounts, Columns, Entry};
+use crossed::entering::open;
+use crossed::entries::{Amounts, Columns};
 use crossed::rolls;
 use crossing::asking::check;
 use crossing::ranks::Ranked;
@@ -23,20 +24,11 @@ impl From<Row> for Amounts {
     }
 }
 
-// The entry of a crossed roll with a number and a row.
-fn entry_of(number: u32, row: Row) -> Entry {
-    Entry {
-        number,
-        amounts: Amounts::from(row),
-    }
-}
-
 // The question that is put to a crossed roll.
 fn question_of(asked: Asked) -> Question {
     Question {
         size: asked.size,
-        low: Amounts::from(asked.low),
-        high: Amounts::from(asked.high),
+        band: band_of(asked),
     }
 }
 
@@ -58,7 +50,7 @@ pub fn ask_crossed(
     drive: Drive,
 ) -> Result<Run, Failure> {
     let mut cells = [entry_of(0, Row::nothing()); 8];
-    let mut roll = rolls::open(&mut cells, columns);
+    let mut roll = open(&mut cells, columns);
     fill(&mut roll, book)?;
     let question = question_of(asked);
     let mut table = [Ranked::nothing(); 38];

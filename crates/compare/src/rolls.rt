@@ -1,12 +1,13 @@
 // The rolls that are asked, and the straight ones: of amounts, and of two amounts side by side.
 use crate::driving::{Drive, Failure, Run};
 use crate::walking::{Asked, Line, Row};
-use measure::{Cents, Measure, Pair};
+use measure::{Band, Cents, Measure, Pair};
 use question::asking::Question;
 use question::beginning::{begin, check};
+use roll::entering::open;
+use roll::entry::Entry;
 use roll::refusal::Refusal;
 use roll::straight;
-use roll::straight::Entry;
 
 // A roll that lines can be entered on and struck from.
 pub trait Roll {
@@ -48,11 +49,19 @@ impl From<Row> for Pair<Cents, Cents> {
     }
 }
 
-// The entry of a straight roll with a number and a row.
-fn entry_of<M: Measure + From<Row>>(number: u32, row: Row) -> Entry<M> {
+// The entry with a number and a row.
+pub fn entry_of<V: From<Row>>(number: u32, row: Row) -> Entry<V> {
     Entry {
         number,
-        value: M::from(row),
+        value: V::from(row),
+    }
+}
+
+// The band that is asked.
+pub fn band_of<V: From<Row>>(asked: Asked) -> Band<V> {
+    Band {
+        low: V::from(asked.low),
+        high: V::from(asked.high),
     }
 }
 
@@ -61,8 +70,7 @@ fn question_of<M: Measure + From<Row>>(asked: Asked) -> Question<M> {
     Question {
         side: asked.side,
         size: asked.size,
-        low: M::from(asked.low),
-        high: M::from(asked.high),
+        band: band_of(asked),
     }
 }
 
@@ -93,7 +101,7 @@ fn accepted<M: Measure + From<Row>>(
 pub fn ask_amounts(book: &[Line], asked: Asked, drive: Drive) -> Result<Run, Failure> {
     let mut cells = [entry_of(0, Row::nothing()); 8];
     let mut table = [Cents::nothing(); 38];
-    let mut roll = straight::open(&mut cells);
+    let mut roll = open(&mut cells);
     let question = accepted(&mut roll, book, asked, &table)?;
     let mut search = begin(&roll, question, &mut table);
     drive.run(
@@ -106,7 +114,7 @@ pub fn ask_amounts(book: &[Line], asked: Asked, drive: Drive) -> Result<Run, Fai
 pub fn ask_pairs(book: &[Line], asked: Asked, drive: Drive) -> Result<Run, Failure> {
     let mut cells = [entry_of(0, Row::nothing()); 8];
     let mut table = [Pair::<Cents, Cents>::nothing(); 38];
-    let mut roll = straight::open(&mut cells);
+    let mut roll = open(&mut cells);
     let question = accepted(&mut roll, book, asked, &table)?;
     let mut search = begin(&roll, question, &mut table);
     drive.run(

@@ -5,7 +5,7 @@
 mod entries {
     use crossed::entries::{Amounts, Entry as CrossedEntry};
     use measure::{Cents, Pair};
-    use roll::straight::Entry;
+    use roll::entry::Entry;
 
     pub fn cents(value: i64) -> Cents {
         Cents { value }
@@ -37,8 +37,8 @@ mod entries {
 
     // An entry of a crossed roll.
     pub fn crossed(number: u32, first: i64, second: i64) -> CrossedEntry {
-        let amounts = amounts(first, second);
-        CrossedEntry { number, amounts }
+        let value = amounts(first, second);
+        CrossedEntry { number, value }
     }
 }
 
@@ -47,23 +47,25 @@ mod questions {
     use crate::entries::{amounts, cents, crossed, entry};
     use crossed::asked::Question as CrossedQuestion;
     use crossed::entries::Columns;
-    use crossed::rolls::open as open_crossed;
+    use crossed::entering::open as open_crossed;
     use crossing::asking::check as check_crossed;
     use crossing::ranks::Ranked;
     use listing::listing::list;
-    use measure::{Cents, Measure};
+    use measure::{Band, Cents, Measure};
     use question::asking::{Question, Side};
     use question::beginning::{begin, check};
     use roll::refusal::Refusal;
-    use roll::straight::open;
+    use roll::entering::open;
 
     // A question to a straight roll.
     fn asked(side: Side, size: usize, low: i64, high: i64) -> Question<Cents> {
         Question {
             side,
             size,
-            low: cents(low),
-            high: cents(high),
+            band: Band {
+                low: cents(low),
+                high: cents(high),
+            },
         }
     }
 
@@ -71,8 +73,10 @@ mod questions {
     fn up_to(first: i64, second: i64) -> CrossedQuestion {
         CrossedQuestion {
             size: 1,
-            low: amounts(0, 0),
-            high: amounts(first, second),
+            band: Band {
+                low: amounts(0, 0),
+                high: amounts(first, second),
+            },
         }
     }
 
@@ -178,7 +182,7 @@ mod questions {
 mod straight_rolls {
     use crate::entries::{entry, pair};
     use roll::refusal::Refusal;
-    use roll::straight::open;
+    use roll::entering::open;
 
     #[test]
     fn cents_are_refused_at_the_edge(rt: HostRuntime) {
@@ -216,7 +220,7 @@ mod straight_rolls {
 mod crossed_rolls {
     use crate::entries::crossed;
     use crossed::entries::Columns;
-    use crossed::rolls::open;
+    use crossed::entering::open;
     use roll::refusal::Refusal;
 
     #[test]
@@ -242,7 +246,7 @@ mod crossed_rolls {
 mod files {
     use crate::entries::crossed;
     use crossed::entries::Columns;
-    use crossed::rolls::open;
+    use crossed::entering::open;
     use records::reader::Fault;
     use roll::refusal::Refusal;
     use rollfile::reading::{check_file, read_roll};
