@@ -4,6 +4,8 @@ use Rattle.std.specs.Borrow.{Bor}
 use Rattle.roll.specs.Refusals.{number_of}
 use Rattle.roll.specs.declared.refusal.Refusal.{Refusal}
 use Rattle.roll.specs.declared.refusal.Refusal.TheVariants.{UnknownKind, ShortRecord, Misplaced, TooLong}
+use Rattle.records.specs.declared.reader.Kind.{Kind}
+use Rattle.records.specs.declared.reader.Kind.TheVariants.{Heading as HeadingKind, Entry as EntryKind, Strike as StrikeKind, Question as QuestionKind}
 use Rattle.records.specs.declared.reader.Record.{Record}
 use Rattle.records.specs.declared.reader.Record.TheVariants.{Heading, Entry, Strike, Question as QuestionRecord}
 use Rattle.records.specs.declared.reader.Layer.{Layer}
@@ -36,6 +38,10 @@ fault_of asked at r = record { refusal = r; place = at; layer = layer_of asked r
 -- the fault in reading a roll
 abbrev pub fault_at : ℕ → Refusal → Fault
 fault_at = fault_of false
+
+-- the kind that a kind byte means
+abbrev pub kind_of : ℕ → Result Kind Refusal
+kind_of k = cond (k == 1) (Ok HeadingKind) (cond (k == 2) (Ok EntryKind) (cond (k == 3) (Ok StrikeKind) (cond (k == 4) (Ok QuestionKind) (Err UnknownKind))))
 
 -- there is a record of this kind
 abbrev pub known : ℕ → Bool
