@@ -9,8 +9,12 @@ use Rattle.records.specs.declared.reader.Fault.{Fault}
 use Rattle.roll.specs.declared.refusal.Refusal.{Refusal}
 use Rattle.roll.specs.declared.refusal.Refusal.TheVariants.{UnknownKind, ShortRecord, Misplaced, TooLong}
 use Rattle.records.specs.declared.reader.Reader.{Reader}
-use Rattle.records.specs.Records.{Rec, fault_at, known, size_of, record_of, same, parsed, located, some, next_of, moved, Behind}
-use Rattle.rollfile.specs.Files.{then, applied, run}
+use Rattle.records.specs.declared.reader.Record.{Record}
+use Rattle.records.specs.Records.{Rec, plain, fault_at, known, size_of, record_of, same, parsed, located, some, next_of, moved, told, Behind, ReadNext}
+use Rattle.crossed.specs.declared.rolls.Roll.{Roll}
+use Rattle.crossed.specs.Books.{if_ok}
+use Rattle.crossed.specs.Rolls.{standing, room_of}
+use Rattle.rollfile.specs.Files.{then, applied, run, holds, Applied, Ran}
 use Rattle.records.proofs.Nexts.{next_at, rest_long}
 
 -- the bytes of a body are passed over
@@ -108,21 +112,45 @@ first_behind bs is o q at file =
     let p : is.place ≡ 2 = at ∙ f.0 in
     (record { short = omega (arith, f.2); positive = omega arith; inside = omega (arith, f.1) }, p)
 
--- the four ways in which a step of the reading ends
-module _ (d : Columns) (room : ℕ) (bs : List ℕ) (xs : List Entry) (at : ℕ) (positive : 0 < at) (short : length bs ≤ 65536) where
-  pub step_fault : (f : Fault) → Err f ≡ next_of bs at → Err f ≡ run d room (drop at bs) xs 0 at
-  step_fault f q = ap (continues d room bs xs at) q ∙ sym (run_step d room bs xs at positive short)
+-- the ways in which a step of the reading ends, behind the first record
+module _ (reader : Reader) (roll : Roll) (behind : Behind reader) where
+  -- what is left, by what is read next
+  left : (o : Result (Option Record) Fault) (next : Reader) → ReadNext reader o next → continues roll.columns (room_of roll) reader.bytes.now (standing roll) reader.place (told o) ≡ run roll.columns (room_of roll) (drop reader.place reader.bytes.now) (standing roll) 0 reader.place
+  left o next q = ap (continues roll.columns (room_of roll) reader.bytes.now (standing roll) reader.place) q.answer ∙ sym (run_step roll.columns (room_of roll) reader.bytes.now (standing roll) reader.place behind.positive behind.short)
 
-  pub step_end : Ok None ≡ next_of bs at → Ok (d, xs) ≡ run d room (drop at bs) xs 0 at
-  step_end q = ap (continues d room bs xs at) q ∙ sym (run_step d room bs xs at positive short)
+  pub ran_fault : (f : Fault) (next : Reader) → ReadNext reader (Err f) next → Ran reader roll (Err f) roll
+  ran_fault f next q = record { answer = left (Err f) next q; room = refl; sound = λ s. s }
 
-  pub step_on : (r : Rec) (ys : List Entry) (at' : ℕ) → Ok (Some r) ≡ next_of bs at → at' ≡ at + 1 + size_of (get_or bs at 0) → Ok ys ≡ applied d room xs r → run d room (drop at' bs) ys 0 at' ≡ run d room (drop at bs) xs 0 at
-  step_on r ys at' q e a =
-      ap (λ n. run d room (drop n bs) ys 0 n) e
-      ∙ ap (λ x. then (located at x) (λ zs. run d room (drop (at + 1 + size_of (get_or bs at 0)) bs) zs 0 (at + 1 + size_of (get_or bs at 0)))) a
-      ∙ ap (continues d room bs xs at) q ∙ sym (run_step d room bs xs at positive short)
+  pub ran_end : (next : Reader) → ReadNext reader (Ok None) next → Ran reader roll (Ok tt) roll
+  ran_end next q = record { answer = left (Ok None) next q; room = refl; sound = λ s. s }
 
-  pub step_refused : (r : Rec) (f : Refusal) → Ok (Some r) ≡ next_of bs at → Err f ≡ applied d room xs r → Err (fault_at at f) ≡ run d room (drop at bs) xs 0 at
-  step_refused r f q a =
-      ap (λ x. then (located at x) (λ zs. run d room (drop (at + 1 + size_of (get_or bs at 0)) bs) zs 0 (at + 1 + size_of (get_or bs at 0)))) a
-      ∙ ap (continues d room bs xs at) q ∙ sym (run_step d room bs xs at positive short)
+  module _ (item : Record) (next : Reader) (q : ReadNext reader (Ok (Some item)) next) where
+    pub behind_next : Behind next
+    behind_next =
+        let f = next_fits reader.bytes.now reader.place (plain item) behind.positive behind.short (sym q.answer) in
+        let n : length next.bytes.now ≡ length reader.bytes.now = ap length q.file in
+        record { short = omega (arith, behind.short); positive = omega (arith, q.place); inside = omega (arith, q.place) }
+
+    -- what is left once the record is applied
+    gone_on : (r : Result (Unit {0}) Refusal) (is : Roll) → Applied roll (plain item) r is → then (located reader.place (if_ok r (standing is))) (λ ys. run roll.columns (room_of roll) (drop next.place reader.bytes.now) ys 0 next.place) ≡ run roll.columns (room_of roll) (drop reader.place reader.bytes.now) (standing roll) 0 reader.place
+    gone_on r is a =
+        ap (λ x. then (located reader.place x) (λ ys. run roll.columns (room_of roll) (drop next.place reader.bytes.now) ys 0 next.place)) a.answer
+        ∙ ap (λ n. then (located reader.place (applied roll.columns (room_of roll) (standing roll) (plain item))) (λ ys. run roll.columns (room_of roll) (drop n reader.bytes.now) ys 0 n)) q.place
+        ∙ left (Ok (Some item)) next q
+
+    pub ran_refused : (r : Result (Unit {0}) Refusal) (f : Fault) (is : Roll) → located reader.place r ≡ Err f → Applied roll (plain item) r is → Ran reader roll (Err f) is
+    ran_refused (Ok u) f is e a = absurd (cc)
+    ran_refused (Err g) f is e a = record { answer = ap (λ x. holds x is) (sym e) ∙ gone_on (Err g) is a; room = a.room; sound = a.sound }
+
+    pub ran_on : (r : Result (Unit {0}) Refusal) (mid : Roll) → located reader.place r ≡ Ok tt → Applied roll (plain item) r mid → (s : Result (Unit {0}) Fault) (is : Roll) → Ran next mid s is → Ran reader roll s is
+    ran_on (Err g) mid e a s is h = absurd (cc)
+    ran_on (Ok u) mid e a s is h = record {
+      answer =
+          h.answer
+          ∙ ap (λ d. run d (room_of mid) (drop next.place next.bytes.now) (standing mid) 0 next.place) a.columns
+          ∙ ap (λ n. run roll.columns n (drop next.place next.bytes.now) (standing mid) 0 next.place) a.room
+          ∙ ap (λ b. run roll.columns (room_of roll) (drop next.place b) (standing mid) 0 next.place) q.file
+          ∙ gone_on (Ok u) mid a;
+      room = h.room ∙ a.room;
+      sound = λ k. h.sound (a.sound k);
+    }
