@@ -3,4 +3,3 @@ pub mod Runs
 mod Digits
 mod Fits
 mod Trips
-mod Fills

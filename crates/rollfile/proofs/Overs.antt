@@ -3,7 +3,9 @@ use Rattle.std.proofs.Common.{◌≡◌, ℕ, ◌+◌, ◌*◌, ◌<◌, ◌≤�
 use Rattle.std.specs.List.{flat_map}
 use Rattle.std.proofs.lemmas.List.{append_assoc, length-append, length-take-le, length-drop, take_at, drop_at, drop-drop, take_more, flat_map_more}
 use Rattle.crossed.specs.declared.entries.Entry.{Entry}
-use Rattle.records.specs.Bytes.{entry_bytes}
+use Rattle.crossed.specs.declared.entries.Columns.{Columns}
+use Rattle.records.specs.Bytes.{entry_bytes, heading_bytes}
+use Rattle.rollfile.specs.Files.{writes}
 use Rattle.rollfile.specs.declared.encoding.Writer.{Writer}
 use Rattle.rollfile.specs.Writing.{over, Puts}
 
@@ -34,6 +36,22 @@ pub length-entries : (xs : List Entry) → length (flat_map entry_bytes xs) ≡ 
 length-entries [] = refl
 length-entries (x ∷ xs) = length-append (entry_bytes x) (flat_map entry_bytes xs) ∙ omega (arith, length-entries xs)
 
+-- the file with so many of the entries
+pub length-writes : (d : Columns) (xs : List Entry) → length (writes d xs) ≡ 2 + 37 * length xs
+length-writes d xs = omega (arith, length-entries xs)
+
+-- one entry more
+pub entries_more : {was is : Writer} (out : List ℕ) (d : Columns) (es : List Entry) (i : ℕ) (e : Entry) → i < length es → e ≡ get_or es i e → 2 + 37 * length es ≤ length out → (was.at ≡ 2 + 37 * i) × (was.out.now ≡ over out 0 (writes d (take i es))) → Puts was (entry_bytes e) is → (is.at ≡ 2 + 37 * (i + 1)) × (is.out.now ≡ over out 0 (writes d (take (i + 1) es)))
+entries_more {was} {is} out d es i e h r l so p =
+    let n : length (writes d (take i es)) ≡ 2 + 37 * i = length-writes d (take i es) ∙ ap (λ k. 2 + 37 * k) (length-take-le i es (omega arith)) in
+    let more : flat_map entry_bytes (take i es) ++ entry_bytes e ≡ flat_map entry_bytes (take (i + 1) es) = flat_map_more entry_bytes [] (take i es) e ∙ ap (flat_map entry_bytes) (ap (λ z. take i es ++ (z ∷ [])) r ∙ sym (take_more es i e h)) in (
+      p.place ∙ omega (arith, so.0),
+      p.output
+      ∙ ap (λ z. over z was.at (entry_bytes e)) so.1
+      ∙ over-over out 0 was.at (writes d (take i es)) (entry_bytes e) (omega arith) (omega arith)
+      ∙ ap (λ bs. over out 0 (heading_bytes d ++ bs)) more,
+    )
+
 -- the bytes by another name
 pub puts_same : {was is : Writer} {xs ys : List ℕ} → Puts was xs is → xs ≡ ys → Puts was ys is
 puts_same {was} {is} p e = subst (λ zs. Puts was zs is) e p
@@ -47,4 +65,5 @@ puts_then {was} {mid} {is} {xs} {ys} p q =
       output = q.output ∙ ap (λ z. over z mid.at ys) p.output ∙ over-over was.out.now was.at mid.at xs ys p.place h;
       place = q.place ∙ omega (arith, length-append xs ys, p.place);
       room = omega (arith, length-append xs ys);
+      same_reference = q.same_reference ∙ p.same_reference;
     }

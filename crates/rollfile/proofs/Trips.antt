@@ -1,5 +1,5 @@
 -- Reading what was written.
-use Rattle.std.proofs.Common.{◌≡◌, ℕ, ◌+◌, ◌<◌, ◌≤◌, min, true, false, ◌||◌, List, [], ◌∷◌, ◌++◌, length, take, drop, Ok, Err, Result, sym, refl, ap, ◌∙◌, arith}
+use Rattle.std.proofs.Common.{◌≡◌, ℕ, ◌+◌, ◌<◌, ◌≤◌, min, true, false, ◌||◌, List, [], ◌∷◌, ◌++◌, length, take, drop, replicate, Ok, Err, Result, sym, refl, ap, ◌∙◌, arith}
 use Rattle.std.specs.List.{flat_map, AllByRecursion}
 use Rattle.std.proofs.ByRecursion.{All-weaker, All-push}
 use Rattle.std.proofs.lemmas.List.{take_at, drop_at, length-append, length_push, append_assoc, append-nil}
@@ -7,7 +7,10 @@ use Rattle.std.proofs.lemmas.Bool.{lt-ltb, ne_eqb, cond-true, cond-false}
 use Rattle.crossed.specs.declared.entries.Entry.{Entry}
 use Rattle.crossed.specs.declared.entries.Columns.{Columns}
 use Rattle.records.specs.declared.reader.Fault.{Fault}
-use Rattle.roll.specs.declared.refusal.Refusal.{Refusal}
+use Rattle.roll.specs.declared.refusal.Refusal.TheVariants.{TooLong}
+use Rattle.crossed.specs.declared.rolls.Roll.{Roll}
+use Rattle.crossed.specs.Rolls.{standing}
+use Rattle.std.proofs.lemmas.Bool.Decides.{nat_tests}
 use Rattle.crossed.specs.Entries.{count_of}
 use Rattle.crossed.specs.Books.{numbered, put, enters, if_ok}
 use Rattle.crossed.specs.Reachable.{Rising, Admitted, WellFormed, Reachable}
@@ -16,7 +19,7 @@ use Rattle.records.specs.Bytes.{entry_body, entry_bytes, heading_bytes}
 use Rattle.records.specs.Records.{heading, entering, parsed, located, some}
 use Rattle.rollfile.specs.Files.{then, applied, stepped, run, headed, opened, reads, writes}
 use Rattle.rollfile.specs.Laws.{RoundTrip, SameBytes}
-use Rattle.rollfile.specs.Writing.{over}
+use Rattle.rollfile.specs.Writing.{over, Written}
 use Rattle.records.proofs.Nexts.{next_at, parsed_ok}
 use Rattle.rollfile.proofs.Overs.{length-entries}
 use Rattle.rollfile.proofs.Runs.{skips}
@@ -87,22 +90,24 @@ round_trip d xs r room fit = sound_trip d xs (always_well_formed d xs r) room fi
 pub same_bytes : SameBytes
 same_bytes d xs r room fit d' ys q =
     let e : ◌≡◌ {A = Result (Columns × List Entry) Fault} (Ok (d, xs)) (Ok (d', ys)) = sym (round_trip d xs r room fit) ∙ q in
-    ap (λ p. writes p.0 p.1) (sym (ok_is (d, xs) (d', ys) e))
-  where
-    ok_is : (p q : Columns × List Entry) → ◌≡◌ {A = Result (Columns × List Entry) Fault} (Ok p) (Ok q) → p ≡ q
-    ok_is p q e = cc
+    let same : ◌≡◌ {A = Columns × List Entry} (d', ys) (d, xs) = cc in
+    ap (λ p. writes p.0 p.1) same
 
--- of what was written, the front reads back
-pub written_back : (d : Columns) (xs : List Entry) (out is : List ℕ) → Reachable d xs → length (writes d xs) ≤ length out → is ≡ over out 0 (writes d xs) → (m n room : ℕ) → m ≡ length (writes d xs) → ◌≡◌ {A = Result ℕ Refusal} (Ok m) (Ok n) → length xs ≤ room → reads (take n is) room ≡ Ok (d, xs)
-written_back d xs out is r h e m n room size q fit =
-    let bs : List ℕ = writes d xs in
-    let m_is : m ≡ n = ok_is q in
-    let front : take n is ≡ bs = ap (take n) e ∙ take_at bs (drop (0 + length bs) out) n (sym size ∙ m_is) in
-    ap (λ l. reads l room) front ∙ round_trip d xs r room fit
-  where
-    ok_is : ◌≡◌ {A = Result ℕ Refusal} (Ok m) (Ok n) → m ≡ n
-    ok_is e = cc
+-- where there is no room
+pub written_short : (r : Roll) (out is : List ℕ) → length out < length (writes r.columns (standing r)) → is ≡ replicate (length out) 0 → Written r out (Err TooLong) is
+written_short r out is h e = record {
+  answer = grind (arith, nat_tests);
+  output = e ∙ grind (arith, nat_tests);
+  reads_back = λ was n room q. absurd (cc);
+}
 
--- a refusal is no answer
-pub unwritten : (r : Refusal) (n : ℕ) → ◌≡◌ {A = Result ℕ Refusal} (Err r) (Ok n) → ⊥
-unwritten r n e = let z : ◌≡◌ {A = ℕ} 0 1 = cc in omega arith
+-- where there is room, what was written reads back
+pub written_whole : (r : Roll) (out is : List ℕ) (m : ℕ) → m ≡ length (writes r.columns (standing r)) → m ≤ length out → is ≡ over out 0 (writes r.columns (standing r)) → Written r out (Ok m) is
+written_whole r out is m size h e = record {
+  answer = grind (arith, nat_tests);
+  output = e ∙ grind (arith, nat_tests);
+  reads_back = λ was n room q fit. (
+      let bs : List ℕ = writes r.columns (standing r) in
+      let long : length bs ≡ n = cc in
+      ap (λ l. reads l room) (ap (take n) e ∙ take_at bs (drop (0 + length bs) out) n long) ∙ round_trip r.columns (standing r) was room fit);
+}

@@ -16,6 +16,7 @@ pub record Puts (was : Writer) (bs : List ℕ) (is : Writer) : Type 0 where
   pub output : is.out.now ≡ over was.out.now was.at bs
   pub place : is.at ≡ was.at + length bs
   pub room : was.at + length bs ≤ length was.out.now
+  pub same_reference : is.out.ghost_name ≡ was.out.ghost_name
 
 -- how many bytes are written, if there is room for them
 abbrev pub written : List ℕ → List ℕ → Result ℕ Refusal
