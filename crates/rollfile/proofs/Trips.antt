@@ -13,7 +13,7 @@ use Rattle.crossed.specs.Rolls.{standing}
 use Rattle.std.proofs.lemmas.Bool.Decides.{nat_tests}
 use Rattle.crossed.specs.Entries.{count_of}
 use Rattle.crossed.specs.Books.{numbered, put, enters, if_ok}
-use Rattle.crossed.specs.Reachable.{Rising, Admitted, WellFormed, Reachable}
+use Rattle.crossed.specs.Reachable.{Rising, Admitted, WellFormed}
 use Rattle.crossed.proofs.Kept.{always_well_formed}
 use Rattle.records.specs.Bytes.{entry_body, entry_bytes, heading_bytes}
 use Rattle.records.specs.Records.{heading, entering, parsed, located, some}
