@@ -1,7 +1,8 @@
 -- Bytes written over bytes.
 use Rattle.std.proofs.Common.{◌≡◌, ℕ, ◌+◌, ◌*◌, ◌<◌, ◌≤◌, List, [], ◌∷◌, ◌++◌, length, get_or, take, drop, sym, refl, ap, ◌∙◌, subst, arith}
 use Rattle.std.specs.List.{flat_map}
-use Rattle.std.proofs.lemmas.List.{append_assoc, length-append, length-take-le, length-drop, take_at, drop_at, drop-drop, take_more, flat_map_more}
+use Rattle.std.proofs.lemmas.Grind.{common_steps}
+use Rattle.std.proofs.lemmas.List.{append_assoc, length-append, length-take-le, take_at, drop_at, drop-drop, take_more, flat_map_more}
 use Rattle.crossed.specs.declared.entries.Entry.{Entry}
 use Rattle.crossed.specs.declared.entries.Columns.{Columns}
 use Rattle.records.specs.Bytes.{entry_bytes, heading_bytes}
@@ -11,7 +12,7 @@ use Rattle.rollfile.specs.Writing.{over, Puts}
 
 -- what is written over keeps its length
 pub length_over : (out : List ℕ) (at : ℕ) (bs : List ℕ) → at + length bs ≤ length out → length (over out at bs) ≡ length out
-length_over out at bs h = simp (length-append, length-drop) (omega (arith, length-take-le at out (omega arith)))
+length_over out at bs h = grind (arith, common_steps)
 
 -- one after another
 pub over-over : (out : List ℕ) (at at' : ℕ) (xs ys : List ℕ) → at' ≡ at + length xs → at + length xs + length ys ≤ length out → over (over out at xs) at' ys ≡ over out at (xs ++ ys)

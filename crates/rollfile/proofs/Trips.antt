@@ -1,9 +1,8 @@
 -- Reading what was written.
-use Rattle.std.proofs.Common.{◌≡◌, ℕ, ◌+◌, ◌<◌, ◌≤◌, min, true, false, ◌||◌, List, [], ◌∷◌, ◌++◌, length, take, drop, replicate, Ok, Err, Result, sym, refl, ap, ◌∙◌, arith}
+use Rattle.std.proofs.Common.{◌≡◌, ℕ, ◌+◌, ◌<◌, ◌≤◌, min, false, List, [], ◌∷◌, ◌++◌, length, take, drop, replicate, Ok, Err, Result, sym, refl, ap, ◌∙◌, arith}
 use Rattle.std.specs.List.{flat_map, AllByRecursion}
 use Rattle.std.proofs.ByRecursion.{All-weaker, All-push}
 use Rattle.std.proofs.lemmas.List.{take_at, drop_at, length-append, length_push, append_assoc, append-nil}
-use Rattle.std.proofs.lemmas.Bool.{lt-ltb, ne_eqb, cond-true, cond-false}
 use Rattle.crossed.specs.declared.entries.Entry.{Entry}
 use Rattle.crossed.specs.declared.entries.Columns.{Columns}
 use Rattle.records.specs.declared.reader.Fault.{Fault}
@@ -11,46 +10,39 @@ use Rattle.roll.specs.declared.refusal.Refusal.TheVariants.{TooLong}
 use Rattle.crossed.specs.declared.rolls.Roll.{Roll}
 use Rattle.crossed.specs.Rolls.{standing}
 use Rattle.std.proofs.lemmas.Bool.Decides.{nat_tests}
-use Rattle.crossed.specs.Entries.{count_of}
-use Rattle.crossed.specs.Books.{numbered, put, enters, if_ok}
+use Rattle.crossed.specs.Books.{numbered, put}
 use Rattle.crossed.specs.Reachable.{Rising, Admitted, WellFormed}
 use Rattle.crossed.proofs.Kept.{always_well_formed}
 use Rattle.records.specs.Bytes.{entry_body, entry_bytes, heading_bytes}
-use Rattle.records.specs.Records.{heading, entering, parsed, located, some}
-use Rattle.rollfile.specs.Files.{then, applied, stepped, run, headed, opened, reads, writes}
-use Rattle.rollfile.specs.Laws.{RoundTrip, SameBytes}
+use Rattle.rollfile.specs.Files.{then, stepped, run, opened, reads, writes}
+use Rattle.rollfile.specs.Laws.{Fitting, RoundTrip, SameBytes}
 use Rattle.rollfile.specs.Writing.{over, Written}
-use Rattle.records.proofs.Nexts.{next_at, parsed_ok}
 use Rattle.rollfile.proofs.Overs.{length-entries}
 use Rattle.rollfile.proofs.Runs.{skips}
-use Rattle.rollfile.proofs.Digits.{entries_back, columns_back}
-use Rattle.rollfile.proofs.Fits.{admitted_fits}
+use Rattle.rollfile.proofs.Digits.{entries_back}
+
+-- each field of an admitted entry fits
+admitted_fits : (d : Columns) (e : Entry) → Admitted d e → Fitting e
+admitted_fits d e g = grind (arith, nat_tests)
 
 -- a number above all others does not stand
 unnumbered : (e : Entry) (xs : List Entry) → AllByRecursion (λ y. y.number < e.number) xs → numbered e.number xs ≡ false
 unnumbered e [] h = refl
-unnumbered e (x ∷ xs) h = let l = h.0 in ap (λ b. b || numbered e.number xs) (ne_eqb x.number e.number (λ q. omega arith)) ∙ unnumbered e xs h.1
+unnumbered e (x ∷ xs) h = grind (arith, nat_tests, unnumbered e xs h.1)
 
 -- its entry is put last
 put_last : (e : Entry) (xs : List Entry) → AllByRecursion (λ y. y.number < e.number) xs → put e xs ≡ xs ++ (e ∷ [])
 put_last e [] h = refl
-put_last e (x ∷ xs) h = cond-true _ _ _ (lt-ltb x.number e.number h.0) ∙ ap (λ l. x ∷ l) (put_last e xs h.1)
-
--- and is entered
-enters_last : (d : Columns) (room : ℕ) (e : Entry) (xs : List Entry) → Admitted d e → AllByRecursion (λ y. y.number < e.number) xs → length xs < min 120 room → enters d room xs e ≡ Ok tt
-enters_last d room e xs g h l =
-    cond-true _ _ _ g.1 ∙ cond-false _ _ _ (unnumbered e xs h) ∙ cond-true _ _ _ (lt-ltb (length xs) (min 120 room) l) ∙ cond-true _ _ _ g.2
+put_last e (x ∷ xs) h = grind (arith, nat_tests, put_last e xs h.1)
 
 -- one entry's record
 one_more : (d : Columns) (room : ℕ) (e : Entry) (xs : List Entry) (rest : List ℕ) (at : ℕ) → Admitted d e → AllByRecursion (λ y. y.number < e.number) xs → length xs < min 120 room → stepped d room xs at 2 (entry_body e ++ rest) ≡ Ok (xs ++ (e ∷ []))
 one_more d room e xs rest at g h l =
-    let long : 36 ≤ length (entry_body e ++ rest) = omega (arith, length-append (entry_body e) rest) in
+    let fits = entries_back e (admitted_fits d e g) in
+    let free = unnumbered e xs h in
+    let last = put_last e xs h in
     let body : take 36 (entry_body e ++ rest) ≡ entry_body e = take_at (entry_body e) rest 36 refl in
-    let is : parsed false 2 (entry_body e ++ rest) ≡ Ok (entering (entry_body e)) = parsed_ok false 2 (entry_body e ++ rest) refl long refl ∙ ap (λ b. Ok (entering b)) body in
-    ap (λ p. then (located at p) (λ r. located at (applied d room xs r))) is
-    ∙ ap (λ x. located at (if_ok (enters d room xs x) (put x xs))) (entries_back e (admitted_fits d e g))
-    ∙ ap (λ r. located at (if_ok r (put e xs))) (enters_last d room e xs g h l)
-    ∙ ap Ok (put_last e xs h)
+    grind (arith, nat_tests)
 
 -- the records of rising entries
 trip : (d : Columns) (room : ℕ) (rest xs : List Entry) (at : ℕ) → Rising rest → AllByRecursion (Admitted d) rest → AllByRecursion (λ y. AllByRecursion (λ e. y.number < e.number) rest) xs → length xs + length rest ≤ 120 → length xs + length rest ≤ room → run d room (flat_map entry_bytes rest) xs 0 at ≡ Ok (d, xs ++ rest)
@@ -68,11 +60,7 @@ trip d room (e ∷ es) xs at rise good below few fit =
 
 -- the heading says the columns
 opened_is : (d : Columns) (rest : List ℕ) → length rest ≤ 65534 → opened (heading_bytes d ++ rest) ≡ Ok d
-opened_is d rest l =
-    let bs : List ℕ = heading_bytes d ++ rest in
-    let is : parsed true 1 (count_of d ∷ rest) ≡ Ok (heading (count_of d ∷ [])) = parsed_ok true 1 (count_of d ∷ rest) refl (omega arith) refl in
-    ap (λ r. then r headed) (next_at bs 0 (omega arith) (omega arith) ∙ ap (λ p. some (located 0 p)) is)
-    ∙ ap (located 0) (columns_back.0 d)
+opened_is d rest l = grind (arith, nat_tests)
 
 -- a well-formed roll reads back
 pub sound_trip : (d : Columns) (xs : List Entry) → WellFormed d xs → (room : ℕ) → length xs ≤ room → reads (writes d xs) room ≡ Ok (d, xs)
