@@ -18,7 +18,7 @@ fn bytes_at<const N: usize>(body: &[u8], at: u8) -> [u8; N]
     requires { N ≤ 8 }
     ensures { (k : ℕ) → k < N → slice_index result k ≡ slice_index body.now (at + k) }
 {
-    array::from_fn(|k| byte(body, at as usize + k))
+    array::from_fn(|k| byte(body, usize::from(at) + k))
 }
 
 // The number of columns that the body of a heading says.
@@ -70,7 +70,7 @@ pub fn asked_in(body: &[u8]) -> Question
     ensures { result ≡ asked_of body.now }
 {
     Question {
-        size: byte(body, 0) as usize,
+        size: usize::from(byte(body, 0)),
         low: amounts_at(body, 1),
         high: amounts_at(body, 33),
     }

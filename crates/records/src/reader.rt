@@ -1,6 +1,6 @@
 // The records of a file, one after another. Each is a byte of kind and a body of fixed length.
 ghost use Rattle.std.specs.Prelude.{◌≡◌, ◌<◌, length};
-ghost use Rattle.records.specs.Records.{fault_of, kind_of, At, AtKind, ReadBody, ReadNext};
+ghost use Rattle.records.specs.Records.{fault_of, kind_of, byte_of, size_of, At, AtKind, ReadBody, ReadNext};
 
 use roll::refusal::Refusal;
 
@@ -47,6 +47,20 @@ pub enum Kind {
     Entry = 2,
     Strike = 3,
     Question = 4,
+}
+
+impl Kind {
+    // How many bytes the body of a record has.
+    fn size(self) -> usize
+        ensures { result ≡ size_of (byte_of self) }
+    {
+        match self {
+            Kind::Heading => 1,
+            Kind::Entry => 36,
+            Kind::Strike => 4,
+            Kind::Question => 65,
+        }
+    }
 }
 
 // The kind that a kind byte means.
@@ -127,7 +141,7 @@ impl<'a> Reader<'a> {
         requires { AtKind self.old 1 }
         ensures { ReadNext self.old result self.new }
     {
-        Ok(Some(Record::Heading(self.body(true, 1)?)))
+        Ok(Some(Record::Heading(self.body(Kind::Heading)?)))
     }
 
     // Reads the entry at the place.
@@ -135,7 +149,7 @@ impl<'a> Reader<'a> {
         requires { AtKind self.old 2 }
         ensures { ReadNext self.old result self.new }
     {
-        Ok(Some(Record::Entry(self.body(false, 36)?)))
+        Ok(Some(Record::Entry(self.body(Kind::Entry)?)))
     }
 
     // Reads the strike at the place.
@@ -143,7 +157,7 @@ impl<'a> Reader<'a> {
         requires { AtKind self.old 3 }
         ensures { ReadNext self.old result self.new }
     {
-        Ok(Some(Record::Strike(self.body(false, 4)?)))
+        Ok(Some(Record::Strike(self.body(Kind::Strike)?)))
     }
 
     // Reads the question at the place.
@@ -151,20 +165,21 @@ impl<'a> Reader<'a> {
         requires { AtKind self.old 4 }
         ensures { ReadNext self.old result self.new }
     {
-        Ok(Some(Record::Question(self.body(false, 65)?)))
+        Ok(Some(Record::Question(self.body(Kind::Question)?)))
     }
 
-    // The body of so many bytes at the place. Only a heading stands first, and only there.
-    fn body(&mut self, heading: bool, size: usize) -> Result<&'a [u8], Fault>
+    // The body of a record of the kind at the place. Only a heading stands first, and only there.
+    fn body(&mut self, kind: Kind) -> Result<&'a [u8], Fault>
         requires { At self.old }
-        ensures { ReadBody heading size self.old result self.new }
+        ensures { ReadBody (byte_of kind) self.old result self.new }
     {
         let place = self.place;
         let bytes = self.bytes;
+        let size = kind.size();
         if bytes.len() - place - 1 < size {
             return Err(Fault::new(Refusal::ShortRecord, place, false));
         }
-        if heading != (place == 0) {
+        if (kind == Kind::Heading) != (place == 0) {
             return Err(Fault::new(Refusal::Misplaced, place, false));
         }
         let end = place + 1 + size;
