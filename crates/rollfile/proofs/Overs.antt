@@ -48,9 +48,9 @@ entries_more {was} {is} out d es i e h r l so p =
     let more : flat_map entry_bytes (take i es) ++ entry_bytes e ≡ flat_map entry_bytes (take (i + 1) es) = flat_map_more entry_bytes [] (take i es) e ∙ ap (flat_map entry_bytes) (ap (λ z. take i es ++ (z ∷ [])) r ∙ sym (take_more es i e h)) in (
       p.place ∙ omega (arith, so.0),
       p.output
-      ∙ ap (λ z. over z was.at (entry_bytes e)) so.1
-      ∙ over-over out 0 was.at (writes d (take i es)) (entry_bytes e) (omega arith) (omega arith)
-      ∙ ap (λ bs. over out 0 (heading_bytes d ++ bs)) more,
+          ∙ ap (λ z. over z was.at (entry_bytes e)) so.1
+          ∙ over-over out 0 was.at (writes d (take i es)) (entry_bytes e) (omega arith) (omega arith)
+          ∙ ap (λ bs. over out 0 (heading_bytes d ++ bs)) more,
     )
 
 -- the bytes by another name
