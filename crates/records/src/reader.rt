@@ -127,15 +127,15 @@ impl<'a> Reader<'a> {
             }
             return Ok(None);
         };
-        match Kind::try_from(*byte) {
-            Ok(Kind::Heading) => self.heading(),
-            Ok(Kind::Entry) => self.entering(),
-            Ok(Kind::Strike) => self.striking(),
-            Ok(Kind::Question) => self.question(),
-            Err(refusal) => Err(Fault::new(refusal, place, false)),
+        match Kind::try_from(*byte).map_err(|refusal| Fault::new(refusal, place, false))? {
+            Kind::Heading => self.heading(),
+            Kind::Entry => self.entering(),
+            Kind::Strike => self.striking(),
+            Kind::Question => self.question(),
         }
     }
 
+    // Kept: the reader has one method for each kind of record, by a rule of the project.
     // Reads the heading at the place.
     fn heading(&mut self) -> Result<Option<Record<'a>>, Fault>
         requires { AtKind self.old 1 }
