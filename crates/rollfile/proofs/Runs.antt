@@ -76,6 +76,13 @@ first_behind bs is o q at file =
     let p : is.place ≡ 2 = at ∙ f.0 in
     (record { short = omega (arith, f.2); positive = omega arith; inside = omega (arith, f.1) }, p)
 
+-- behind a record that is read the reader stands behind the first one
+pub behind_next : (reader : Reader) → Behind reader → (item : Record) (next : Reader) → ReadNext reader (Ok (Some item)) next → Behind next
+behind_next reader behind item next q =
+    let f = next_fits reader.bytes.now reader.place (plain item) behind.positive behind.short (sym q.answer) in
+    let n : length next.bytes.now ≡ length reader.bytes.now = ap length q.file in
+    record { short = omega (arith, behind.short); positive = omega (arith, q.place); inside = omega (arith, q.place) }
+
 -- the ways in which a step of the reading ends, behind the first record
 module _ (reader : Reader) (roll : Roll) (behind : Behind reader) where
   -- what is left, by what is read next
@@ -89,12 +96,6 @@ module _ (reader : Reader) (roll : Roll) (behind : Behind reader) where
   ran_end next q = record { answer = left (Ok None) next q; room = refl; sound = λ s. s }
 
   module _ (item : Record) (next : Reader) (q : ReadNext reader (Ok (Some item)) next) where
-    pub behind_next : Behind next
-    behind_next =
-        let f = next_fits reader.bytes.now reader.place (plain item) behind.positive behind.short (sym q.answer) in
-        let n : length next.bytes.now ≡ length reader.bytes.now = ap length q.file in
-        record { short = omega (arith, behind.short); positive = omega (arith, q.place); inside = omega (arith, q.place) }
-
     -- what is left once the record is applied
     gone_on : (r : Result (Unit {0}) Refusal) (is : Roll) → Applied roll (plain item) r is → then (located reader.place (if_ok r (standing is))) (λ ys. run roll.columns (room_of roll) (drop next.place reader.bytes.now) ys 0 next.place) ≡ run roll.columns (room_of roll) (drop reader.place reader.bytes.now) (standing roll) 0 reader.place
     gone_on r is a =

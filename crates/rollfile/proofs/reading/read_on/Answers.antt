@@ -20,7 +20,7 @@ records-preserved c =
     let l = c.records in
     let q : ReadNext l.reader (Ok (Some c.in-Some.item)) c.next.new.self = subst (λ o. ReadNext l.reader (Ok o) c.next.new.self) c.in-Some.is c.in_ok-item.ensures in
     let m : located l.reader.place c.apply.result ≡ c.map_err.result = search rules in (
-      behind_next l.reader l.roll l.invariant.0 c.in-Some.item c.next.new.self q,
+      behind_next l.reader l.invariant.0 c.in-Some.item c.next.new.self q,
       (λ s is h. l.invariant.1 s is (ran_on l.reader l.roll l.invariant.0 c.in-Some.item c.next.new.self q c.apply.result c.apply.new.roll (m ∙ c.in_ok-map_err.was) c.apply.ensures s is h)),
     )
 
