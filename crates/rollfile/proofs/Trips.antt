@@ -1,7 +1,7 @@
 -- Reading what was written.
 use Rattle.std.proofs.Common.{◌≡◌, ℕ, ◌+◌, ◌<◌, ◌≤◌, min, false, List, [], ◌∷◌, ◌++◌, length, take, drop, replicate, Ok, Err, Result, sym, refl, ap, ◌∙◌, arith}
-use Rattle.std.specs.List.{flat_map, AllByRecursion}
-use Rattle.std.proofs.ByRecursion.{All-weaker, All-push}
+use Rattle.std.specs.List.{flat_map, All, AllByRecursion}
+use Rattle.std.proofs.lemmas.List.Elements.{All-weaker, All-push, recursion_from_All}
 use Rattle.std.proofs.lemmas.List.{take_at, drop_at, length-append, length_push, append_assoc, append-nil}
 use Rattle.crossed.specs.declared.entries.Entry.{Entry}
 use Rattle.crossed.specs.declared.entries.Columns.{Columns}
@@ -45,12 +45,12 @@ one_more d room e xs rest at g h l =
     grind (arith, nat_tests)
 
 -- the records of rising entries
-trip : (d : Columns) (room : ℕ) (rest xs : List Entry) (at : ℕ) → Rising rest → AllByRecursion (Admitted d) rest → AllByRecursion (λ y. AllByRecursion (λ e. y.number < e.number) rest) xs → length xs + length rest ≤ 120 → length xs + length rest ≤ room → run d room (flat_map entry_bytes rest) xs 0 at ≡ Ok (d, xs ++ rest)
+trip : (d : Columns) (room : ℕ) (rest xs : List Entry) (at : ℕ) → Rising rest → AllByRecursion (Admitted d) rest → All (λ y. AllByRecursion (λ e. y.number < e.number) rest) xs → length xs + length rest ≤ 120 → length xs + length rest ≤ room → run d room (flat_map entry_bytes rest) xs 0 at ≡ Ok (d, xs ++ rest)
 trip d room [] xs at rise good below few fit = ap (λ l. Ok (d, l)) (sym (append-nil xs))
 trip d room (e ∷ es) xs at rise good below few fit =
     let tail : List ℕ = flat_map entry_bytes es in
-    let under : AllByRecursion (λ y. y.number < e.number) xs = All-weaker (λ y. AllByRecursion (λ e. y.number < e.number) (e ∷ es)) (λ y. y.number < e.number) (λ y h. h.0) xs below in
-    let next : AllByRecursion (λ y. AllByRecursion (λ e. y.number < e.number) es) (xs ++ (e ∷ [])) = All-push (λ y. AllByRecursion (λ e. y.number < e.number) es) xs e (All-weaker (λ y. AllByRecursion (λ e. y.number < e.number) (e ∷ es)) (λ y. AllByRecursion (λ e. y.number < e.number) es) (λ y h. h.1) xs below) rise.0 in
+    let under : AllByRecursion (λ y. y.number < e.number) xs = recursion_from_All (λ y. y.number < e.number) xs (All-weaker (λ y. AllByRecursion (λ e. y.number < e.number) (e ∷ es)) (λ y. y.number < e.number) (λ y h. h.0) xs below) in
+    let next : All (λ y. AllByRecursion (λ e. y.number < e.number) es) (xs ++ (e ∷ [])) = All-push (λ y. AllByRecursion (λ e. y.number < e.number) es) xs e (All-weaker (λ y. AllByRecursion (λ e. y.number < e.number) (e ∷ es)) (λ y. AllByRecursion (λ e. y.number < e.number) es) (λ y h. h.1) xs below) rise.0 in
     let size = length_push xs e in
     ap (λ r. then r (λ ys. run d room (entry_body e ++ tail) ys 36 (at + 1))) (one_more d room e xs tail at good.0 under (omega arith))
     ∙ skips d room (entry_body e ++ tail) (xs ++ (e ∷ [])) 36 (at + 1) (omega (arith, length-append (entry_body e) tail))
@@ -68,7 +68,7 @@ sound_trip d xs s room fit =
     let n = length-entries xs in
     let few = s.2 in
     ap (λ r. then r (λ d. run d room (drop 2 (writes d xs)) [] 0 2)) (opened_is d (flat_map entry_bytes xs) (omega arith))
-    ∙ trip d room xs [] 2 s.0 s.1 tt (omega arith) (omega arith)
+    ∙ trip d room xs [] 2 s.0 s.1 (λ k y h. absurd (omega arith)) (omega arith) (omega arith)
 
 -- and so does every roll that calls can lead to
 pub round_trip : RoundTrip
