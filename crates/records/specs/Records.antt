@@ -4,6 +4,8 @@ use Rattle.std.specs.Borrow.{Bor}
 use Rattle.roll.specs.Refusals.{number_of}
 use Rattle.roll.specs.declared.refusal.Refusal.{Refusal}
 use Rattle.roll.specs.declared.refusal.Refusal.TheVariants.{UnknownKind, ShortRecord, Misplaced, TooLong}
+use Rattle.records.specs.declared.reader.Kind.{Kind}
+use Rattle.records.specs.declared.reader.Kind.TheVariants.{Heading as HeadingKind, Entry as EntryKind, Strike as StrikeKind, Question as QuestionKind}
 use Rattle.records.specs.declared.reader.Record.{Record}
 use Rattle.records.specs.declared.reader.Record.TheVariants.{Heading, Entry, Strike, Question as QuestionRecord}
 use Rattle.records.specs.declared.reader.Layer.{Layer}
@@ -36,6 +38,17 @@ fault_of asked at r = record { refusal = r; place = at; layer = layer_of asked r
 -- the fault in reading a roll
 abbrev pub fault_at : ℕ → Refusal → Fault
 fault_at = fault_of false
+
+-- the kind that a kind byte means
+abbrev pub kind_of : ℕ → Result Kind Refusal
+kind_of k = cond (k == 1) (Ok HeadingKind) (cond (k == 2) (Ok EntryKind) (cond (k == 3) (Ok StrikeKind) (cond (k == 4) (Ok QuestionKind) (Err UnknownKind))))
+
+-- the kind byte of a kind
+abbrev pub byte_of : Kind → ℕ
+byte_of HeadingKind = 1
+byte_of EntryKind = 2
+byte_of StrikeKind = 3
+byte_of QuestionKind = 4
 
 -- there is a record of this kind
 abbrev pub known : ℕ → Bool
@@ -127,8 +140,8 @@ abbrev pub behind : {X : Type 0} → ℕ → ℕ → Result X Fault → ℕ
 behind at n (Ok x) = at + 1 + n
 behind at n (Err f) = at
 
--- reading a body of so many bytes, of a heading or not
-pub record ReadBody (first : Bool) (n : ℕ) (was : Reader) (r : Result (Bor (List ℕ)) Fault) (is : Reader) : Type 0 where
-  pub answer : body_told r ≡ located was.place (body_of (same (was.place == 0) first) n (drop (was.place + 1) was.bytes.now))
-  pub place : is.place ≡ behind was.place n r
+-- reading the body of a record of kind k
+pub record ReadBody (k : ℕ) (was : Reader) (r : Result (Bor (List ℕ)) Fault) (is : Reader) : Type 0 where
+  pub answer : body_told r ≡ located was.place (body_of (same (was.place == 0) (k == 1)) (size_of k) (drop (was.place + 1) was.bytes.now))
+  pub place : is.place ≡ behind was.place (size_of k) r
   pub file : is.bytes.now ≡ was.bytes.now

@@ -1,15 +1,24 @@
 // What the bodies of records say: numbers with the high byte first, amounts in two's complement.
-ghost use Rattle.std.specs.Prelude.{◌≡◌, ◌≤◌, slice_index};
+ghost use Rattle.std.specs.Prelude.{◌≡◌, ◌+◌, ◌<◌, ◌≤◌, ◌^◌, ℕ, slice_index};
 ghost use Rattle.records.specs.Bytes.{of4, amount_of, amounts_of, entry_of, asked_of};
 
 use crossed::asked::Question;
 use crossed::entries::{Amounts, Entry};
+use std::array;
 
 // The byte at a place, 0 past the end.
 fn byte(body: &[u8], i: usize) -> u8
     ensures { result ≡ slice_index body.now i }
 {
-    if i < body.len() { body[i] } else { 0 }
+    body.get(i).copied().unwrap_or(0)
+}
+
+// The bytes from a place on, 0 past the end.
+fn bytes_at<const N: usize>(body: &[u8], at: u8) -> [u8; N]
+    requires { N ≤ 8 }
+    ensures { (k : ℕ) → k < N → slice_index result k ≡ slice_index body.now (at + k) }
+{
+    array::from_fn(|k| byte(body, usize::from(at) + k))
 }
 
 // The number of columns that the body of a heading says.
@@ -23,24 +32,14 @@ pub fn heading_in(body: &[u8]) -> u8
 pub fn number_in(body: &[u8]) -> u32
     ensures { result ≡ of4 body.now 0 }
 {
-    u32::from_be_bytes([byte(body, 0), byte(body, 1), byte(body, 2), byte(body, 3)])
+    u32::from_be_bytes(bytes_at(body, 0))
 }
 
 // The amount of the eight bytes from a place on.
 fn amount_at(body: &[u8], at: u8) -> i64
     ensures { result ≡ amount_of body.now at }
 {
-    let i = at as usize;
-    i64::from_be_bytes([
-        byte(body, i),
-        byte(body, i + 1),
-        byte(body, i + 2),
-        byte(body, i + 3),
-        byte(body, i + 4),
-        byte(body, i + 5),
-        byte(body, i + 6),
-        byte(body, i + 7),
-    ])
+    i64::from_be_bytes(bytes_at(body, at))
 }
 
 // The four amounts from a place on.
@@ -71,7 +70,7 @@ pub fn asked_in(body: &[u8]) -> Question
     ensures { result ≡ asked_of body.now }
 {
     Question {
-        size: byte(body, 0) as usize,
+        size: usize::from(byte(body, 0)),
         low: amounts_at(body, 1),
         high: amounts_at(body, 33),
     }

@@ -1,11 +1,11 @@
 // The records of a file, one after another. Each is a byte of kind and a body of fixed length.
 ghost use Rattle.std.specs.Prelude.{◌≡◌, ◌<◌, length};
-ghost use Rattle.records.specs.Records.{fault_of, At, AtKind, ReadBody, ReadNext};
+ghost use Rattle.records.specs.Records.{fault_of, kind_of, byte_of, size_of, At, AtKind, ReadBody, ReadNext};
 
 use roll::refusal::Refusal;
 
 // Where a refusal comes from: the form of the file, a call on the roll, or a question.
-#[derive(Clone, Copy)]
+#[derive(Clone, Copy, PartialEq, Eq, Debug)]
 pub enum Layer {
     File,
     Roll,
@@ -13,7 +13,7 @@ pub enum Layer {
 }
 
 // Why a file is refused, with the place of the kind byte of the record that is at fault.
-#[derive(Clone, Copy)]
+#[derive(Clone, Copy, PartialEq, Eq, Debug)]
 pub struct Fault {
     pub refusal: Refusal,
     pub place: usize,
@@ -25,24 +25,57 @@ impl Fault {
     pub fn new(refusal: Refusal, place: usize, question: bool) -> Fault
         ensures { result ≡ fault_of question place refusal }
     {
-        if refusal.number() > 11 {
-            return Fault {
-                refusal,
-                place,
-                layer: Layer::File,
-            };
-        }
-        if question {
-            return Fault {
-                refusal,
-                place,
-                layer: Layer::Question,
-            };
-        }
+        let layer = if refusal.number() > 11 {
+            Layer::File
+        } else if question {
+            Layer::Question
+        } else {
+            Layer::Roll
+        };
         Fault {
             refusal,
             place,
-            layer: Layer::Roll,
+            layer,
+        }
+    }
+}
+
+// The kinds of record, each with its kind byte.
+#[derive(Clone, Copy, PartialEq, Eq, Debug)]
+pub enum Kind {
+    Heading = 1,
+    Entry = 2,
+    Strike = 3,
+    Question = 4,
+}
+
+impl Kind {
+    // How many bytes the body of a record has.
+    fn size(self) -> usize
+        ensures { result ≡ size_of (byte_of self) }
+    {
+        match self {
+            Kind::Heading => 1,
+            Kind::Entry => 36,
+            Kind::Strike => 4,
+            Kind::Question => 65,
+        }
+    }
+}
+
+// The kind that a kind byte means.
+impl TryFrom<u8> for Kind {
+    type Error = Refusal;
+
+    ghost try_from_gives = { λ byte r. r ≡ kind_of byte };
+
+    fn try_from(byte: u8) -> Result<Kind, Refusal> {
+        match byte {
+            1 => Ok(Kind::Heading),
+            2 => Ok(Kind::Entry),
+            3 => Ok(Kind::Strike),
+            4 => Ok(Kind::Question),
+            _ => Err(Refusal::UnknownKind),
         }
     }
 }
@@ -88,30 +121,27 @@ impl<'a> Reader<'a> {
         if bytes.len() > 65536 {
             return Err(Fault::new(Refusal::TooLong, 0, false));
         }
-        if place >= bytes.len() {
+        let Some(byte) = bytes.get(place) else {
             if place == 0 {
                 return Err(Fault::new(Refusal::ShortRecord, 0, false));
             }
             return Ok(None);
-        }
-        match bytes[place] {
-            1 => self.heading(),
-            2 => self.entering(),
-            3 => self.striking(),
-            4 => self.question(),
-            _ => Err(Fault::new(Refusal::UnknownKind, place, false)),
+        };
+        match Kind::try_from(*byte).map_err(|refusal| Fault::new(refusal, place, false))? {
+            Kind::Heading => self.heading(),
+            Kind::Entry => self.entering(),
+            Kind::Strike => self.striking(),
+            Kind::Question => self.question(),
         }
     }
 
+    // Kept: the reader has one method for each kind of record, by a rule of the project.
     // Reads the heading at the place.
     fn heading(&mut self) -> Result<Option<Record<'a>>, Fault>
         requires { AtKind self.old 1 }
         ensures { ReadNext self.old result self.new }
     {
-        match self.body(true, 1) {
-            Ok(body) => Ok(Some(Record::Heading(body))),
-            Err(fault) => Err(fault),
-        }
+        Ok(Some(Record::Heading(self.body(Kind::Heading)?)))
     }
 
     // Reads the entry at the place.
@@ -119,10 +149,7 @@ impl<'a> Reader<'a> {
         requires { AtKind self.old 2 }
         ensures { ReadNext self.old result self.new }
     {
-        match self.body(false, 36) {
-            Ok(body) => Ok(Some(Record::Entry(body))),
-            Err(fault) => Err(fault),
-        }
+        Ok(Some(Record::Entry(self.body(Kind::Entry)?)))
     }
 
     // Reads the strike at the place.
@@ -130,10 +157,7 @@ impl<'a> Reader<'a> {
         requires { AtKind self.old 3 }
         ensures { ReadNext self.old result self.new }
     {
-        match self.body(false, 4) {
-            Ok(body) => Ok(Some(Record::Strike(body))),
-            Err(fault) => Err(fault),
-        }
+        Ok(Some(Record::Strike(self.body(Kind::Strike)?)))
     }
 
     // Reads the question at the place.
@@ -141,23 +165,21 @@ impl<'a> Reader<'a> {
         requires { AtKind self.old 4 }
         ensures { ReadNext self.old result self.new }
     {
-        match self.body(false, 65) {
-            Ok(body) => Ok(Some(Record::Question(body))),
-            Err(fault) => Err(fault),
-        }
+        Ok(Some(Record::Question(self.body(Kind::Question)?)))
     }
 
-    // The body of so many bytes at the place. Only a heading stands first, and only there.
-    fn body(&mut self, heading: bool, size: usize) -> Result<&'a [u8], Fault>
+    // The body of a record of the kind at the place. Only a heading stands first, and only there.
+    fn body(&mut self, kind: Kind) -> Result<&'a [u8], Fault>
         requires { At self.old }
-        ensures { ReadBody heading size self.old result self.new }
+        ensures { ReadBody (byte_of kind) self.old result self.new }
     {
         let place = self.place;
         let bytes = self.bytes;
+        let size = kind.size();
         if bytes.len() - place - 1 < size {
             return Err(Fault::new(Refusal::ShortRecord, place, false));
         }
-        if heading != (place == 0) {
+        if (kind == Kind::Heading) != (place == 0) {
             return Err(Fault::new(Refusal::Misplaced, place, false));
         }
         let end = place + 1 + size;

@@ -1,6 +1,4 @@
 pub mod Overs
 pub mod Runs
 mod Digits
-mod Fits
 mod Trips
-mod Fills

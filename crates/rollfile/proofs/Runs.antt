@@ -1,16 +1,19 @@
 -- What the records make, one after another.
-use Rattle.std.proofs.Common.{◌≡◌, ℕ, zero, suc, ◌+◌, ◌<◌, ◌≤◌, Bool, true, false, cond, eqb, ltb, List, [], ◌∷◌, length, get_or, take, drop, Some, None, Ok, Err, Option, Result, sym, refl, ap, ◌∙◌, inl, inr, arith}
+use Rattle.std.proofs.Common.{◌≡◌, ℕ, zero, suc, ◌+◌, ◌<◌, ◌≤◌, Bool, false, List, [], ◌∷◌, length, get_or, drop, Some, None, Ok, Err, Option, Result, sym, refl, ap, ◌∙◌, inl, inr, arith}
 use Rattle.std.proofs.lemmas.List.{drop_more, drop_all, drop-drop}
-use Rattle.std.proofs.lemmas.Bool.{lt-ltb, le-ltb, cond-true, cond-false, ne_eqb}
+use Rattle.std.proofs.lemmas.Bool.{ne_eqb}
 use Rattle.std.proofs.lemmas.Bool.Decides.{nat_tests, leb_tells}
 use Rattle.crossed.specs.declared.entries.Entry.{Entry}
 use Rattle.crossed.specs.declared.entries.Columns.{Columns}
 use Rattle.records.specs.declared.reader.Fault.{Fault}
 use Rattle.roll.specs.declared.refusal.Refusal.{Refusal}
-use Rattle.roll.specs.declared.refusal.Refusal.TheVariants.{UnknownKind, ShortRecord, Misplaced, TooLong}
 use Rattle.records.specs.declared.reader.Reader.{Reader}
-use Rattle.records.specs.Records.{Rec, fault_at, known, size_of, record_of, same, parsed, located, some, next_of, moved, Behind}
-use Rattle.rollfile.specs.Files.{then, applied, run}
+use Rattle.records.specs.declared.reader.Record.{Record}
+use Rattle.records.specs.Records.{Rec, plain, size_of, parsed, located, some, next_of, moved, told, Behind, ReadNext}
+use Rattle.crossed.specs.declared.rolls.Roll.{Roll}
+use Rattle.crossed.specs.Books.{if_ok}
+use Rattle.crossed.specs.Rolls.{standing, room_of}
+use Rattle.rollfile.specs.Files.{then, applied, run, holds, Applied, Ran}
 use Rattle.records.proofs.Nexts.{next_at, rest_long}
 
 -- the bytes of a body are passed over
@@ -21,19 +24,16 @@ skips d room (b ∷ bs) xs (suc k) at h = skips d room bs xs k (at + 1) (omega a
 
 -- a record that is read has its body
 pub parsed_fits : (first : Bool) (k : ℕ) (bs : List ℕ) (r : Rec) → parsed first k bs ≡ Ok r → size_of k ≤ length bs
-parsed_fits first k bs r q = go (known k) (same first (eqb k 1)) q
-  where
-    go : (a b : Bool) → ◌≡◌ {A = Result Rec Refusal} (cond a (cond (ltb (length bs) (size_of k)) (Err ShortRecord) (cond b (Ok (record_of k (take (size_of k) bs))) (Err Misplaced))) (Err UnknownKind)) (Ok r) → size_of k ≤ length bs
-    go a b e = grind (arith, nat_tests)
+parsed_fits first k bs r q = grind (arith, nat_tests)
 
 -- what a reading goes on with
-abbrev pub continues : Columns → ℕ → List ℕ → List Entry → ℕ → Result (Option Rec) Fault → Result (Columns × List Entry) Fault
+abbrev continues : Columns → ℕ → List ℕ → List Entry → ℕ → Result (Option Rec) Fault → Result (Columns × List Entry) Fault
 continues d room bs xs at (Err f) = Err f
 continues d room bs xs at (Ok None) = Ok (d, xs)
 continues d room bs xs at (Ok (Some r)) = then (located at (applied d room xs r)) (λ ys. run d room (drop (at + 1 + size_of (get_or bs at 0)) bs) ys 0 (at + 1 + size_of (get_or bs at 0)))
 
 -- one record within the file
-pub run_more : (d : Columns) (room : ℕ) (bs : List ℕ) (xs : List Entry) (at : ℕ) → 0 < at → length bs ≤ 65536 → at < length bs → run d room (drop at bs) xs 0 at ≡ continues d room bs xs at (next_of bs at)
+run_more : (d : Columns) (room : ℕ) (bs : List ℕ) (xs : List Entry) (at : ℕ) → 0 < at → length bs ≤ 65536 → at < length bs → run d room (drop at bs) xs 0 at ≡ continues d room bs xs at (next_of bs at)
 run_more d room bs xs at positive short h =
     ap (λ l. run d room l xs 0 at) (drop_more bs at 0 h)
     ∙ go (parsed false (get_or bs at 0) (drop (at + 1) bs)) refl
@@ -49,56 +49,24 @@ run_more d room bs xs at positive short h =
 
 -- behind the last byte there is no record
 pub next_none : (bs : List ℕ) (at : ℕ) → 0 < at → length bs ≤ 65536 → length bs ≤ at → next_of bs at ≡ Ok None
-next_none bs at positive short h = cond-false _ _ _ (le-ltb 65536 (length bs) short) ∙ cond-false _ _ _ (le-ltb at (length bs) h) ∙ cond-false _ _ _ (ne_eqb at 0 (omega arith))
+next_none bs at positive short h = grind (arith, nat_tests)
 
 -- and nothing to apply
-pub run_none : (d : Columns) (room : ℕ) (bs : List ℕ) (xs : List Entry) (at : ℕ) → 0 < at → length bs ≤ 65536 → length bs ≤ at → run d room (drop at bs) xs 0 at ≡ continues d room bs xs at (next_of bs at)
-run_none d room bs xs at positive short h = ap (λ l. run d room l xs 0 at) (drop_all at bs h) ∙ sym (ap (continues d room bs xs at) (next_none bs at positive short h))
+run_none : (d : Columns) (room : ℕ) (bs : List ℕ) (xs : List Entry) (at : ℕ) → 0 < at → length bs ≤ 65536 → length bs ≤ at → run d room (drop at bs) xs 0 at ≡ continues d room bs xs at (next_of bs at)
+run_none d room bs xs at positive short h = grind (arith, nat_tests, drop_all)
 
 -- one record
-pub run_step : (d : Columns) (room : ℕ) (bs : List ℕ) (xs : List Entry) (at : ℕ) → 0 < at → length bs ≤ 65536 → run d room (drop at bs) xs 0 at ≡ continues d room bs xs at (next_of bs at)
+run_step : (d : Columns) (room : ℕ) (bs : List ℕ) (xs : List Entry) (at : ℕ) → 0 < at → length bs ≤ 65536 → run d room (drop at bs) xs 0 at ≡ continues d room bs xs at (next_of bs at)
 run_step d room bs xs at positive short =
     elim (leb_tells (length bs) at) [ inl t ↦ run_none d room bs xs at positive short t.1 | inr t ↦ run_more d room bs xs at positive short t.1 ]
 
 -- where a record is read there is room for it
 pub next_fits : (bs : List ℕ) (at : ℕ) (r : Rec) → 0 < at → length bs ≤ 65536 → next_of bs at ≡ Ok (Some r) → at + 1 + size_of (get_or bs at 0) ≤ length bs
-next_fits bs at r positive short q =
-    elim (leb_tells (length bs) at) [
-      | inl t ↦ (let z : ◌≡◌ {A = ℕ} 0 1 = cc (next_none bs at positive short t.1) in absurd (omega arith))
-      | inr t ↦ go t.1 (parsed (eqb at 0) (get_or bs at 0) (drop (at + 1) bs)) refl (sym (next_at bs at short t.1) ∙ q)
-    ]
-  where
-    go : at < length bs → (p : Result Rec Refusal) → parsed (eqb at 0) (get_or bs at 0) (drop (at + 1) bs) ≡ p → some (located at p) ≡ Ok (Some r) → at + 1 + size_of (get_or bs at 0) ≤ length bs
-    go h (Err f) e e' = let z : ◌≡◌ {A = ℕ} 0 1 = cc in absurd (omega arith)
-    go h (Ok r') e e' = omega (arith, parsed_fits (eqb at 0) (get_or bs at 0) (drop (at + 1) bs) r' e, rest_long bs at)
-
--- a first record that is read is a heading
-pub parsed-first : (k : ℕ) (bs : List ℕ) (r : Rec) → parsed true k bs ≡ Ok r → size_of k ≡ 1
-parsed-first k bs r q = go (known k) (ltb (length bs) (size_of k)) (eqb k 1) refl q
-  where
-    go : (a b h : Bool) → eqb k 1 ≡ h → ◌≡◌ {A = Result Rec Refusal} (cond a (cond b (Err ShortRecord) (cond h (Ok (record_of k (take (size_of k) bs))) (Err Misplaced))) (Err UnknownKind)) (Ok r) → size_of k ≡ 1
-    go false b h e e' = let z : ◌≡◌ {A = ℕ} 0 1 = cc in absurd (omega arith)
-    go true true h e e' = let z : ◌≡◌ {A = ℕ} 0 1 = cc in absurd (omega arith)
-    go true false false e e' = let z : ◌≡◌ {A = ℕ} 0 1 = cc in absurd (omega arith)
-    go true false true e e' = cond-true _ _ _ e
+next_fits bs at r positive short q = grind (arith, nat_tests, rest_long)
 
 -- a first record that is read has two bytes
-pub first_is : (bs : List ℕ) (o : Option Rec) → next_of bs 0 ≡ Ok o → (moved bs 0 (Ok o) ≡ 2) × (2 ≤ length bs) × (length bs ≤ 65536)
-first_is bs o q =
-    elim (leb_tells (length bs) 65536) [
-      | inr t ↦ (let e : next_of bs 0 ≡ Err (fault_at 0 TooLong) = cond-true _ _ _ (lt-ltb 65536 (length bs) t.1) in let z : ◌≡◌ {A = ℕ} 0 1 = cc in absurd (omega arith))
-      | inl t ↦ elim (leb_tells (length bs) 0) [
-        | inl s ↦ (let e : next_of bs 0 ≡ Err (fault_at 0 ShortRecord) = cond-false _ _ _ (le-ltb 65536 (length bs) t.1) ∙ cond-false _ _ _ (le-ltb 0 (length bs) s.1) in let z : ◌≡◌ {A = ℕ} 0 1 = cc in absurd (omega arith))
-        | inr s ↦ go t.1 s.1 (parsed true (get_or bs 0 0) (drop (0 + 1) bs)) refl (sym (next_at bs 0 t.1 s.1) ∙ q)
-      ]
-    ]
-  where
-    go : length bs ≤ 65536 → 0 < length bs → (p : Result Rec Refusal) → parsed true (get_or bs 0 0) (drop (0 + 1) bs) ≡ p → some (located 0 p) ≡ Ok o → (moved bs 0 (Ok o) ≡ 2) × (2 ≤ length bs) × (length bs ≤ 65536)
-    go l h (Err f) e e' = let z : ◌≡◌ {A = ℕ} 0 1 = cc in absurd (omega arith)
-    go l h (Ok r) e e' =
-        let one : size_of (get_or bs 0 0) ≡ 1 = parsed-first (get_or bs 0 0) (drop (0 + 1) bs) r e in
-        let at : 0 + 1 + size_of (get_or bs 0 0) ≡ 2 = omega arith in
-        (sym (ap (moved bs 0) e') ∙ at, omega (arith, parsed_fits true (get_or bs 0 0) (drop (0 + 1) bs) r e, rest_long bs 0), l)
+first_is : (bs : List ℕ) (o : Option Rec) → next_of bs 0 ≡ Ok o → (moved bs 0 (Ok o) ≡ 2) × (2 ≤ length bs) × (length bs ≤ 65536)
+first_is bs o q = grind (arith, nat_tests, rest_long)
 
 -- behind the heading, where one was read
 pub first_behind : (bs : List ℕ) (is : Reader) (o : Option Rec) → next_of bs 0 ≡ Ok o → is.place ≡ moved bs 0 (Ok o) → is.bytes.now ≡ bs → Behind is × (is.place ≡ 2)
@@ -108,21 +76,46 @@ first_behind bs is o q at file =
     let p : is.place ≡ 2 = at ∙ f.0 in
     (record { short = omega (arith, f.2); positive = omega arith; inside = omega (arith, f.1) }, p)
 
--- the four ways in which a step of the reading ends
-module _ (d : Columns) (room : ℕ) (bs : List ℕ) (xs : List Entry) (at : ℕ) (positive : 0 < at) (short : length bs ≤ 65536) where
-  pub step_fault : (f : Fault) → Err f ≡ next_of bs at → Err f ≡ run d room (drop at bs) xs 0 at
-  step_fault f q = ap (continues d room bs xs at) q ∙ sym (run_step d room bs xs at positive short)
+-- behind a record that is read the reader stands behind the first one
+pub behind_next : (reader : Reader) → Behind reader → (item : Record) (next : Reader) → ReadNext reader (Ok (Some item)) next → Behind next
+behind_next reader behind item next q =
+    let f = next_fits reader.bytes.now reader.place (plain item) behind.positive behind.short (sym q.answer) in
+    let n : length next.bytes.now ≡ length reader.bytes.now = ap length q.file in
+    record { short = omega (arith, behind.short); positive = omega (arith, q.place); inside = omega (arith, q.place) }
 
-  pub step_end : Ok None ≡ next_of bs at → Ok (d, xs) ≡ run d room (drop at bs) xs 0 at
-  step_end q = ap (continues d room bs xs at) q ∙ sym (run_step d room bs xs at positive short)
+-- the ways in which a step of the reading ends, behind the first record
+module _ (reader : Reader) (roll : Roll) (behind : Behind reader) where
+  -- what is left, by what is read next
+  left : (o : Result (Option Record) Fault) (next : Reader) → ReadNext reader o next → continues roll.columns (room_of roll) reader.bytes.now (standing roll) reader.place (told o) ≡ run roll.columns (room_of roll) (drop reader.place reader.bytes.now) (standing roll) 0 reader.place
+  left o next q = ap (continues roll.columns (room_of roll) reader.bytes.now (standing roll) reader.place) q.answer ∙ sym (run_step roll.columns (room_of roll) reader.bytes.now (standing roll) reader.place behind.positive behind.short)
 
-  pub step_on : (r : Rec) (ys : List Entry) (at' : ℕ) → Ok (Some r) ≡ next_of bs at → at' ≡ at + 1 + size_of (get_or bs at 0) → Ok ys ≡ applied d room xs r → run d room (drop at' bs) ys 0 at' ≡ run d room (drop at bs) xs 0 at
-  step_on r ys at' q e a =
-      ap (λ n. run d room (drop n bs) ys 0 n) e
-      ∙ ap (λ x. then (located at x) (λ zs. run d room (drop (at + 1 + size_of (get_or bs at 0)) bs) zs 0 (at + 1 + size_of (get_or bs at 0)))) a
-      ∙ ap (continues d room bs xs at) q ∙ sym (run_step d room bs xs at positive short)
+  pub ran_fault : (f : Fault) (next : Reader) → ReadNext reader (Err f) next → Ran reader roll (Err f) roll
+  ran_fault f next q = record { answer = left (Err f) next q; room = refl; sound = λ s. s }
 
-  pub step_refused : (r : Rec) (f : Refusal) → Ok (Some r) ≡ next_of bs at → Err f ≡ applied d room xs r → Err (fault_at at f) ≡ run d room (drop at bs) xs 0 at
-  step_refused r f q a =
-      ap (λ x. then (located at x) (λ zs. run d room (drop (at + 1 + size_of (get_or bs at 0)) bs) zs 0 (at + 1 + size_of (get_or bs at 0)))) a
-      ∙ ap (continues d room bs xs at) q ∙ sym (run_step d room bs xs at positive short)
+  pub ran_end : (next : Reader) → ReadNext reader (Ok None) next → Ran reader roll (Ok tt) roll
+  ran_end next q = record { answer = left (Ok None) next q; room = refl; sound = λ s. s }
+
+  module _ (item : Record) (next : Reader) (q : ReadNext reader (Ok (Some item)) next) where
+    -- what is left once the record is applied
+    gone_on : (r : Result (Unit {0}) Refusal) (is : Roll) → Applied roll (plain item) r is → then (located reader.place (if_ok r (standing is))) (λ ys. run roll.columns (room_of roll) (drop next.place reader.bytes.now) ys 0 next.place) ≡ run roll.columns (room_of roll) (drop reader.place reader.bytes.now) (standing roll) 0 reader.place
+    gone_on r is a =
+        ap (λ x. then (located reader.place x) (λ ys. run roll.columns (room_of roll) (drop next.place reader.bytes.now) ys 0 next.place)) a.answer
+        ∙ ap (λ n. then (located reader.place (applied roll.columns (room_of roll) (standing roll) (plain item))) (λ ys. run roll.columns (room_of roll) (drop n reader.bytes.now) ys 0 n)) q.place
+        ∙ left (Ok (Some item)) next q
+
+    pub ran_refused : (r : Result (Unit {0}) Refusal) (f : Fault) (is : Roll) → located reader.place r ≡ Err f → Applied roll (plain item) r is → Ran reader roll (Err f) is
+    ran_refused (Ok u) f is e a = absurd (cc)
+    ran_refused (Err g) f is e a = record { answer = ap (λ x. holds x is) (sym e) ∙ gone_on (Err g) is a; room = a.room; sound = a.sound }
+
+    pub ran_on : (r : Result (Unit {0}) Refusal) (mid : Roll) → located reader.place r ≡ Ok tt → Applied roll (plain item) r mid → (s : Result (Unit {0}) Fault) (is : Roll) → Ran next mid s is → Ran reader roll s is
+    ran_on (Err g) mid e a s is h = absurd (cc)
+    ran_on (Ok u) mid e a s is h = record {
+      answer =
+          h.answer
+          ∙ ap (λ d. run d (room_of mid) (drop next.place next.bytes.now) (standing mid) 0 next.place) a.columns
+          ∙ ap (λ n. run roll.columns n (drop next.place next.bytes.now) (standing mid) 0 next.place) a.room
+          ∙ ap (λ b. run roll.columns (room_of roll) (drop next.place b) (standing mid) 0 next.place) q.file
+          ∙ gone_on (Ok u) mid a;
+      room = h.room ∙ a.room;
+      sound = λ k. h.sound (a.sound k);
+    }

@@ -1,61 +1,56 @@
 -- Reading what was written.
-use Rattle.std.proofs.Common.{◌≡◌, ℕ, ◌+◌, ◌<◌, ◌≤◌, min, true, false, ◌||◌, List, [], ◌∷◌, ◌++◌, length, take, drop, Ok, Err, Result, sym, refl, ap, ◌∙◌, arith}
-use Rattle.std.specs.List.{flat_map, AllByRecursion}
-use Rattle.std.proofs.ByRecursion.{All-weaker, All-push}
+use Rattle.std.proofs.Common.{◌≡◌, ℕ, ◌+◌, ◌<◌, ◌≤◌, min, false, List, [], ◌∷◌, ◌++◌, length, take, drop, replicate, Ok, Err, Result, sym, refl, ap, ◌∙◌, arith}
+use Rattle.std.specs.List.{flat_map, All, AllByRecursion}
+use Rattle.std.proofs.lemmas.List.Elements.{All-weaker, All-push, recursion_from_All}
 use Rattle.std.proofs.lemmas.List.{take_at, drop_at, length-append, length_push, append_assoc, append-nil}
-use Rattle.std.proofs.lemmas.Bool.{lt-ltb, ne_eqb, cond-true, cond-false}
 use Rattle.crossed.specs.declared.entries.Entry.{Entry}
 use Rattle.crossed.specs.declared.entries.Columns.{Columns}
 use Rattle.records.specs.declared.reader.Fault.{Fault}
-use Rattle.roll.specs.declared.refusal.Refusal.{Refusal}
-use Rattle.crossed.specs.Entries.{count_of}
-use Rattle.crossed.specs.Books.{numbered, put, enters, if_ok}
-use Rattle.crossed.specs.Reachable.{Rising, Admitted, WellFormed, Reachable}
+use Rattle.roll.specs.declared.refusal.Refusal.TheVariants.{TooLong}
+use Rattle.crossed.specs.declared.rolls.Roll.{Roll}
+use Rattle.crossed.specs.Rolls.{standing}
+use Rattle.std.proofs.lemmas.Bool.Decides.{nat_tests}
+use Rattle.crossed.specs.Books.{numbered, put}
+use Rattle.crossed.specs.Reachable.{Rising, Admitted, WellFormed}
 use Rattle.crossed.proofs.Kept.{always_well_formed}
 use Rattle.records.specs.Bytes.{entry_body, entry_bytes, heading_bytes}
-use Rattle.records.specs.Records.{heading, entering, parsed, located, some}
-use Rattle.rollfile.specs.Files.{then, applied, stepped, run, headed, opened, reads, writes}
-use Rattle.rollfile.specs.Laws.{RoundTrip, SameBytes}
-use Rattle.rollfile.specs.Writing.{over}
-use Rattle.records.proofs.Nexts.{next_at, parsed_ok}
+use Rattle.rollfile.specs.Files.{then, stepped, run, opened, reads, writes}
+use Rattle.rollfile.specs.Laws.{Fitting, RoundTrip, SameBytes}
+use Rattle.rollfile.specs.Writing.{over, Written}
 use Rattle.rollfile.proofs.Overs.{length-entries}
 use Rattle.rollfile.proofs.Runs.{skips}
-use Rattle.rollfile.proofs.Digits.{entries_back, columns_back}
-use Rattle.rollfile.proofs.Fits.{admitted_fits}
+use Rattle.rollfile.proofs.Digits.{entries_back}
+
+-- each field of an admitted entry fits
+admitted_fits : (d : Columns) (e : Entry) → Admitted d e → Fitting e
+admitted_fits d e g = grind (arith, nat_tests)
 
 -- a number above all others does not stand
 unnumbered : (e : Entry) (xs : List Entry) → AllByRecursion (λ y. y.number < e.number) xs → numbered e.number xs ≡ false
 unnumbered e [] h = refl
-unnumbered e (x ∷ xs) h = let l = h.0 in ap (λ b. b || numbered e.number xs) (ne_eqb x.number e.number (λ q. omega arith)) ∙ unnumbered e xs h.1
+unnumbered e (x ∷ xs) h = grind (arith, nat_tests, unnumbered e xs h.1)
 
 -- its entry is put last
 put_last : (e : Entry) (xs : List Entry) → AllByRecursion (λ y. y.number < e.number) xs → put e xs ≡ xs ++ (e ∷ [])
 put_last e [] h = refl
-put_last e (x ∷ xs) h = cond-true _ _ _ (lt-ltb x.number e.number h.0) ∙ ap (λ l. x ∷ l) (put_last e xs h.1)
-
--- and is entered
-enters_last : (d : Columns) (room : ℕ) (e : Entry) (xs : List Entry) → Admitted d e → AllByRecursion (λ y. y.number < e.number) xs → length xs < min 120 room → enters d room xs e ≡ Ok tt
-enters_last d room e xs g h l =
-    cond-true _ _ _ g.1 ∙ cond-false _ _ _ (unnumbered e xs h) ∙ cond-true _ _ _ (lt-ltb (length xs) (min 120 room) l) ∙ cond-true _ _ _ g.2
+put_last e (x ∷ xs) h = grind (arith, nat_tests, put_last e xs h.1)
 
 -- one entry's record
 one_more : (d : Columns) (room : ℕ) (e : Entry) (xs : List Entry) (rest : List ℕ) (at : ℕ) → Admitted d e → AllByRecursion (λ y. y.number < e.number) xs → length xs < min 120 room → stepped d room xs at 2 (entry_body e ++ rest) ≡ Ok (xs ++ (e ∷ []))
 one_more d room e xs rest at g h l =
-    let long : 36 ≤ length (entry_body e ++ rest) = omega (arith, length-append (entry_body e) rest) in
+    let fits = entries_back e (admitted_fits d e g) in
+    let free = unnumbered e xs h in
+    let last = put_last e xs h in
     let body : take 36 (entry_body e ++ rest) ≡ entry_body e = take_at (entry_body e) rest 36 refl in
-    let is : parsed false 2 (entry_body e ++ rest) ≡ Ok (entering (entry_body e)) = parsed_ok false 2 (entry_body e ++ rest) refl long refl ∙ ap (λ b. Ok (entering b)) body in
-    ap (λ p. then (located at p) (λ r. located at (applied d room xs r))) is
-    ∙ ap (λ x. located at (if_ok (enters d room xs x) (put x xs))) (entries_back e (admitted_fits d e g))
-    ∙ ap (λ r. located at (if_ok r (put e xs))) (enters_last d room e xs g h l)
-    ∙ ap Ok (put_last e xs h)
+    grind (arith, nat_tests)
 
 -- the records of rising entries
-trip : (d : Columns) (room : ℕ) (rest xs : List Entry) (at : ℕ) → Rising rest → AllByRecursion (Admitted d) rest → AllByRecursion (λ y. AllByRecursion (λ e. y.number < e.number) rest) xs → length xs + length rest ≤ 120 → length xs + length rest ≤ room → run d room (flat_map entry_bytes rest) xs 0 at ≡ Ok (d, xs ++ rest)
+trip : (d : Columns) (room : ℕ) (rest xs : List Entry) (at : ℕ) → Rising rest → AllByRecursion (Admitted d) rest → All (λ y. AllByRecursion (λ e. y.number < e.number) rest) xs → length xs + length rest ≤ 120 → length xs + length rest ≤ room → run d room (flat_map entry_bytes rest) xs 0 at ≡ Ok (d, xs ++ rest)
 trip d room [] xs at rise good below few fit = ap (λ l. Ok (d, l)) (sym (append-nil xs))
 trip d room (e ∷ es) xs at rise good below few fit =
     let tail : List ℕ = flat_map entry_bytes es in
-    let under : AllByRecursion (λ y. y.number < e.number) xs = All-weaker (λ y. AllByRecursion (λ e. y.number < e.number) (e ∷ es)) (λ y. y.number < e.number) (λ y h. h.0) xs below in
-    let next : AllByRecursion (λ y. AllByRecursion (λ e. y.number < e.number) es) (xs ++ (e ∷ [])) = All-push (λ y. AllByRecursion (λ e. y.number < e.number) es) xs e (All-weaker (λ y. AllByRecursion (λ e. y.number < e.number) (e ∷ es)) (λ y. AllByRecursion (λ e. y.number < e.number) es) (λ y h. h.1) xs below) rise.0 in
+    let under : AllByRecursion (λ y. y.number < e.number) xs = recursion_from_All (λ y. y.number < e.number) xs (All-weaker (λ y. AllByRecursion (λ e. y.number < e.number) (e ∷ es)) (λ y. y.number < e.number) (λ y h. h.0) xs below) in
+    let next : All (λ y. AllByRecursion (λ e. y.number < e.number) es) (xs ++ (e ∷ [])) = All-push (λ y. AllByRecursion (λ e. y.number < e.number) es) xs e (All-weaker (λ y. AllByRecursion (λ e. y.number < e.number) (e ∷ es)) (λ y. AllByRecursion (λ e. y.number < e.number) es) (λ y h. h.1) xs below) rise.0 in
     let size = length_push xs e in
     ap (λ r. then r (λ ys. run d room (entry_body e ++ tail) ys 36 (at + 1))) (one_more d room e xs tail at good.0 under (omega arith))
     ∙ skips d room (entry_body e ++ tail) (xs ++ (e ∷ [])) 36 (at + 1) (omega (arith, length-append (entry_body e) tail))
@@ -65,11 +60,7 @@ trip d room (e ∷ es) xs at rise good below few fit =
 
 -- the heading says the columns
 opened_is : (d : Columns) (rest : List ℕ) → length rest ≤ 65534 → opened (heading_bytes d ++ rest) ≡ Ok d
-opened_is d rest l =
-    let bs : List ℕ = heading_bytes d ++ rest in
-    let is : parsed true 1 (count_of d ∷ rest) ≡ Ok (heading (count_of d ∷ [])) = parsed_ok true 1 (count_of d ∷ rest) refl (omega arith) refl in
-    ap (λ r. then r headed) (next_at bs 0 (omega arith) (omega arith) ∙ ap (λ p. some (located 0 p)) is)
-    ∙ ap (located 0) (columns_back.0 d)
+opened_is d rest l = grind (arith, nat_tests)
 
 -- a well-formed roll reads back
 pub sound_trip : (d : Columns) (xs : List Entry) → WellFormed d xs → (room : ℕ) → length xs ≤ room → reads (writes d xs) room ≡ Ok (d, xs)
@@ -77,7 +68,7 @@ sound_trip d xs s room fit =
     let n = length-entries xs in
     let few = s.2 in
     ap (λ r. then r (λ d. run d room (drop 2 (writes d xs)) [] 0 2)) (opened_is d (flat_map entry_bytes xs) (omega arith))
-    ∙ trip d room xs [] 2 s.0 s.1 tt (omega arith) (omega arith)
+    ∙ trip d room xs [] 2 s.0 s.1 (λ k y h. absurd (omega arith)) (omega arith) (omega arith)
 
 -- and so does every roll that calls can lead to
 pub round_trip : RoundTrip
@@ -87,22 +78,24 @@ round_trip d xs r room fit = sound_trip d xs (always_well_formed d xs r) room fi
 pub same_bytes : SameBytes
 same_bytes d xs r room fit d' ys q =
     let e : ◌≡◌ {A = Result (Columns × List Entry) Fault} (Ok (d, xs)) (Ok (d', ys)) = sym (round_trip d xs r room fit) ∙ q in
-    ap (λ p. writes p.0 p.1) (sym (ok_is (d, xs) (d', ys) e))
-  where
-    ok_is : (p q : Columns × List Entry) → ◌≡◌ {A = Result (Columns × List Entry) Fault} (Ok p) (Ok q) → p ≡ q
-    ok_is p q e = cc
+    let same : ◌≡◌ {A = Columns × List Entry} (d', ys) (d, xs) = cc in
+    ap (λ p. writes p.0 p.1) same
 
--- of what was written, the front reads back
-pub written_back : (d : Columns) (xs : List Entry) (out is : List ℕ) → Reachable d xs → length (writes d xs) ≤ length out → is ≡ over out 0 (writes d xs) → (m n room : ℕ) → m ≡ length (writes d xs) → ◌≡◌ {A = Result ℕ Refusal} (Ok m) (Ok n) → length xs ≤ room → reads (take n is) room ≡ Ok (d, xs)
-written_back d xs out is r h e m n room size q fit =
-    let bs : List ℕ = writes d xs in
-    let m_is : m ≡ n = ok_is q in
-    let front : take n is ≡ bs = ap (take n) e ∙ take_at bs (drop (0 + length bs) out) n (sym size ∙ m_is) in
-    ap (λ l. reads l room) front ∙ round_trip d xs r room fit
-  where
-    ok_is : ◌≡◌ {A = Result ℕ Refusal} (Ok m) (Ok n) → m ≡ n
-    ok_is e = cc
+-- where there is no room
+pub written_short : (r : Roll) (out is : List ℕ) → length out < length (writes r.columns (standing r)) → is ≡ replicate (length out) 0 → Written r out (Err TooLong) is
+written_short r out is h e = record {
+  answer = grind (arith, nat_tests);
+  output = e ∙ grind (arith, nat_tests);
+  reads_back = λ was n room q. absurd (cc);
+}
 
--- a refusal is no answer
-pub unwritten : (r : Refusal) (n : ℕ) → ◌≡◌ {A = Result ℕ Refusal} (Err r) (Ok n) → ⊥
-unwritten r n e = let z : ◌≡◌ {A = ℕ} 0 1 = cc in omega arith
+-- where there is room, what was written reads back
+pub written_whole : (r : Roll) (out is : List ℕ) (m : ℕ) → m ≡ length (writes r.columns (standing r)) → m ≤ length out → is ≡ over out 0 (writes r.columns (standing r)) → Written r out (Ok m) is
+written_whole r out is m size h e = record {
+  answer = grind (arith, nat_tests);
+  output = e ∙ grind (arith, nat_tests);
+  reads_back = λ was n room q fit. (
+      let bs : List ℕ = writes r.columns (standing r) in
+      let long : length bs ≡ n = cc in
+      ap (λ l. reads l room) (ap (take n) e ∙ take_at bs (drop (0 + length bs) out) n long) ∙ round_trip r.columns (standing r) was room fit);
+}

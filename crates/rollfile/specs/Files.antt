@@ -104,6 +104,12 @@ pub record Ran (reader : Reader) (was : Roll) (r : Result (Unit {0}) Fault) (is 
   pub room : room_of is ≡ room_of was
   pub sound : Sound was → Sound is
 
+-- a roll is read from a file, up to the first fault
+pub record Loaded (bs : List ℕ) (was : Roll) (r : Result (Unit {0}) Fault) (is : Roll) : Type 0 where
+  pub answer : holds r is ≡ reads bs (room_of was)
+  pub room : room_of is ≡ room_of was
+  pub sound : is_ok r ≡ true → Sound is
+
 -- a roll is read from a file, or cleared after a fault
 pub record Filled (bs : List ℕ) (was : Roll) (r : Result (Unit {0}) Fault) (is : Roll) : Type 0 where
   pub answer : r ≡ fault_read (reads bs (room_of was))

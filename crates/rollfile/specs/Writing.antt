@@ -4,11 +4,19 @@ use Rattle.roll.specs.declared.refusal.Refusal.{Refusal}
 use Rattle.roll.specs.declared.refusal.Refusal.TheVariants.{TooLong}
 use Rattle.crossed.specs.declared.rolls.Roll.{Roll}
 use Rattle.crossed.specs.Rolls.{standing, Sound}
+use Rattle.rollfile.specs.declared.encoding.Writer.{Writer}
 use Rattle.rollfile.specs.Files.{reads, writes}
 
 -- bs over what stands from a place on; what is before and behind stays
 abbrev pub over : List ℕ → ℕ → List ℕ → List ℕ
 over out at bs = take at out ++ (bs ++ drop (at + length bs) out)
+
+-- bytes that there is room for are written behind what is written
+pub record Puts (was : Writer) (bs : List ℕ) (is : Writer) : Type 0 where
+  pub output : is.out.now ≡ over was.out.now was.at bs
+  pub place : is.at ≡ was.at + length bs
+  pub room : was.at + length bs ≤ length was.out.now
+  pub same_reference : is.out.ghost_name ≡ was.out.ghost_name
 
 -- how many bytes are written, if there is room for them
 abbrev pub written : List ℕ → List ℕ → Result ℕ Refusal

@@ -1,8 +1,8 @@
 // Reading a roll from a file.
-ghost use Rattle.std.specs.Prelude.{◌≡◌, ◌<◌, length, Some, slice_index};
+ghost use Rattle.std.specs.Prelude.{◌≡◌, length, slice_index};
 ghost use Rattle.crossed.specs.Entries.{columns_of};
 ghost use Rattle.records.specs.Records.{plain, located, Behind};
-ghost use Rattle.rollfile.specs.Files.{headed, opened, reads, fault_read, Applied, Started, Ran, Filled, Checked, Read};
+ghost use Rattle.rollfile.specs.Files.{opened, Applied, Started, Ran, Loaded, Filled, Checked, Read};
 
 use crossed::entries::{Columns, Entry, columns_of};
 use crossed::rolls::{Roll, clear, open};
@@ -15,10 +15,9 @@ pub fn apply(roll: &mut Roll, item: Record) -> Result<(), Refusal>
     ensures { Applied roll.old (plain item.entry) result roll.new }
 {
     match item {
-        Record::Heading(_) => Ok(()),
         Record::Entry(body) => roll.enter(entry_in(body)),
         Record::Strike(body) => roll.strike(number_in(body)),
-        Record::Question(_) => Ok(()),
+        Record::Heading(_) | Record::Question(_) => Ok(()),
     }
 }
 
@@ -26,22 +25,7 @@ pub fn apply(roll: &mut Roll, item: Record) -> Result<(), Refusal>
 fn heading_columns(body: &[u8]) -> Result<Columns, Fault>
     ensures { result ≡ located 0 (columns_of (slice_index body.now 0)) }
 {
-    match columns_of(heading_in(body)) {
-        Ok(columns) => Ok(columns),
-        Err(refusal) => Err(Fault::new(refusal, 0, false)),
-    }
-}
-
-// The columns that the first record says; only a heading comes first.
-fn columns_in(item: Record) -> Result<Columns, Fault>
-    ensures { result ≡ headed (Some (plain item.entry)) }
-{
-    match item {
-        Record::Heading(body) => heading_columns(body),
-        Record::Entry(_) => Ok(Columns::One),
-        Record::Strike(_) => Ok(Columns::One),
-        Record::Question(_) => Ok(Columns::One),
-    }
+    columns_of(heading_in(body)).map_err(|refusal| Fault::new(refusal, 0, false))
 }
 
 // Reads the heading.
@@ -49,12 +33,9 @@ fn start(reader: &mut Reader) -> Result<Columns, Fault>
     requires { reader.old.place ≡ 0 }
     ensures { Started reader.old result reader.new }
 {
-    match reader.next() {
-        Err(fault) => Err(fault),
-        Ok(next) => match next {
-            None => Ok(Columns::One),
-            Some(item) => columns_in(item),
-        },
+    match reader.next()? {
+        Some(Record::Heading(body)) => heading_columns(body),
+        _ => Ok(Columns::One),
     }
 }
 
@@ -73,61 +54,42 @@ fn read_on(reader: &mut Reader, roll: &mut Roll) -> Result<(), Fault>
 {
     'records: loop {
         let place = reader.place();
-        match reader.next() {
-            Err(fault) => return Err(fault),
-            Ok(next) => match next {
-                None => return Ok(()),
-                Some(item) => match apply(roll, item) {
-                    Ok(()) => {}
-                    Err(refusal) => return Err(Fault::new(refusal, place, false)),
-                },
-            },
-        }
+        let Some(item) = reader.next()? else {
+            return Ok(());
+        };
+        apply(roll, item).map_err(|refusal| Fault::new(refusal, place, false))?;
     }
+}
+
+// Reads a file onto the roll, up to the first fault.
+fn read_all(bytes: &[u8], roll: &mut Roll) -> Result<(), Fault>
+    ensures { Loaded bytes.now roll.old result roll.new }
+{
+    let mut reader = Reader::new(bytes);
+    roll.reopen(start(&mut reader)?);
+    read_on(&mut reader, roll)
 }
 
 // Reads a file onto the roll. After a fault the roll is empty, of one column, and its cells are zero.
 fn fill(bytes: &[u8], roll: &mut Roll) -> Result<(), Fault>
     ensures { Filled bytes.now roll.old result roll.new }
 {
-    let mut reader = Reader::new(bytes);
-    match start(&mut reader) {
-        Err(fault) => {
-            roll.reopen(Columns::One);
-            Err(fault)
-        }
-        Ok(columns) => {
-            roll.reopen(columns);
-            match read_on(&mut reader, roll) {
-                Ok(()) => Ok(()),
-                Err(fault) => {
-                    roll.reopen(Columns::One);
-                    Err(fault)
-                }
-            }
-        }
+    let read = read_all(bytes, roll);
+    if read.is_err() {
+        roll.reopen(Columns::One);
     }
-}
-
-// The fault of a file, or none.
-fn fault_in(bytes: &[u8], cells: &mut [Entry]) -> Result<(), Fault>
-    ensures { result ≡ fault_read (reads bytes.now (length cells.old)) }
-{
-    let mut roll = open(cells, Columns::One);
-    fill(bytes, &mut roll)
+    read
 }
 
 // Tests a file over cells that a roll can have later: its fault, or none. After a fault every cell is zero.
 pub fn check_file(bytes: &[u8], cells: &mut [Entry]) -> Result<(), Fault>
     ensures { Checked bytes.now (length cells.old) result cells.new }
 {
-    match fault_in(bytes, cells) {
-        Ok(()) => Ok(()),
-        Err(fault) => {
-            clear(cells);
-            Err(fault)
-        }
+    let read = fill(bytes, &mut open(cells, Columns::One));
+    if read.is_err() {
+        clear(cells);
     }
+    read
 }
 
 // The roll that a file gives. After a fault it is empty, of one column, and every cell is zero.
