@@ -6,7 +6,7 @@ use Rattle.std.proofs.lemmas.Bool.Decides.{leb_tells}
 use Rattle.roll.specs.declared.refusal.Refusal.{Refusal}
 use Rattle.crossed.specs.declared.asked.Question.{Question}
 use Rattle.crossed.specs.declared.entries.Columns.{Columns}
-use Rattle.crossed.specs.declared.entries.Entry.{Entry}
+use Rattle.crossed.specs.Entries.{Entry}
 use Rattle.crossed.specs.Books.{if_ok}
 use Rattle.crossing.specs.Asking.{asking}
 use Rattle.records.specs.declared.reader.Fault.{Fault}

@@ -9,7 +9,7 @@ use Rattle.sets.specs.Advance.{End, set as set_end, spent, finished, run, page_o
 use Rattle.exploring.specs.declared.state.Answer.{Answer}
 use Rattle.exploring.specs.declared.state.Told.TheVariants.{Set, Spent, Finished}
 use Rattle.exploring.specs.Meaning.{told_of, Ran}
-use Rattle.crossed.specs.declared.entries.Entry.{Entry}
+use Rattle.crossed.specs.Entries.{Entry}
 use Rattle.crossed.specs.Entries.{zero_entry}
 use Rattle.listing.specs.Text.{line}
 use Rattle.listing.specs.Listing.{numbers, set_line, lines_within}

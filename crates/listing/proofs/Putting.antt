@@ -3,7 +3,7 @@ use Rattle.std.proofs.Common.{◌≡◌, ℕ, suc, ◌+◌, ◌<◌, ◌≤◌, 
 use Rattle.roll.specs.declared.refusal.Refusal.{Refusal}
 use Rattle.crossed.specs.declared.asked.Question.{Question}
 use Rattle.crossed.specs.declared.entries.Columns.{Columns}
-use Rattle.crossed.specs.declared.entries.Entry.{Entry}
+use Rattle.crossed.specs.Entries.{Entry}
 use Rattle.records.specs.declared.reader.Fault.{Fault}
 use Rattle.records.specs.Records.{Rec, size_of, next_of}
 use Rattle.listing.specs.Text.{Puts}

@@ -8,7 +8,7 @@ use Rattle.sets.specs.Crossings.{Crosses}
 use Rattle.sets.proofs.Crossed.{crossed_sound}
 use Rattle.exploring.specs.Meaning.{size_of}
 use Rattle.crossed.specs.declared.asked.Question.{Question}
-use Rattle.crossed.specs.declared.entries.Entry.{Entry}
+use Rattle.crossed.specs.Entries.{Entry}
 use Rattle.crossing.specs.Ranks.{Rank, row_of, rows_of}
 use Rattle.crossing.specs.Meaning.{to_come}
 use Rattle.crossing.specs.Beginning.{Starts}

@@ -11,7 +11,7 @@ use Rattle.crossing.specs.Ranks.{row_of}
 use Rattle.crossed.specs.Books.{if_ok}
 use Rattle.crossed.specs.declared.asked.Question.{Question}
 use Rattle.crossed.specs.declared.entries.Columns.{Columns}
-use Rattle.crossed.specs.declared.entries.Entry.{Entry}
+use Rattle.crossed.specs.Entries.{Entry}
 use Rattle.records.specs.Bytes.{asked_of}
 use Rattle.rollfile.specs.Files.{then, applied, opened}
 use Rattle.rollfile.specs.Writing.{written, output_after}
@@ -118,7 +118,6 @@ pub record Tried (was : Roll) (table : ℕ) (rec : Rec) (r : Result (Unit {0}) R
   pub answer : if_ok r (standing is) ≡ tried was.columns (room_of was) table (standing was) rec
   pub columns : is.columns ≡ was.columns
   pub room : room_of is ≡ room_of was
-  pub sound : Sound was → Sound is
 
 -- the listing of a file is written, over a roll of 120 cells and a table of 1,600 values: its length, or that it does not fit,
 -- and what stands in the output then

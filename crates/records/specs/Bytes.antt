@@ -3,7 +3,7 @@ use Rattle.std.specs.Prelude.{ℕ, ◌+◌, ◌*◌, ◌/◌, ◌%◌, List, [],
 use Rattle.std.specs.Int.{w64}
 use Rattle.std.proofs.Common.{to_z, of_z}
 use Rattle.crossed.specs.declared.entries.Amounts.{Amounts}
-use Rattle.crossed.specs.declared.entries.Entry.{Entry}
+use Rattle.crossed.specs.Entries.{Entry}
 use Rattle.crossed.specs.declared.entries.Columns.{Columns}
 use Rattle.crossed.specs.Entries.{count_of}
 use Rattle.crossed.specs.declared.asked.Question.{Question}
@@ -42,7 +42,7 @@ amounts_of bs i = record { first = amount_of bs i; second = amount_of bs (i + 8)
 
 -- the body of the record of an entry
 abbrev pub entry_body : Entry → List ℕ
-entry_body e = be4 e.number ++ amounts_bytes e.amounts
+entry_body e = be4 e.number ++ amounts_bytes e.value
 
 -- the record of an entry
 abbrev pub entry_bytes : Entry → List ℕ
@@ -50,7 +50,7 @@ entry_bytes e = 2 ∷ entry_body e
 
 -- the entry that a body says
 abbrev pub entry_of : List ℕ → Entry
-entry_of bs = record { number = of4 bs 0; amounts = amounts_of bs 4 }
+entry_of bs = record { number = of4 bs 0; value = amounts_of bs 4 }
 
 -- the heading of a roll of d columns
 abbrev pub heading_bytes : Columns → List ℕ
@@ -58,4 +58,4 @@ heading_bytes d = 1 ∷ count_of d ∷ []
 
 -- what the body of a question asks
 abbrev pub asked_of : List ℕ → Question
-asked_of bs = record { size = slice_index bs 0; low = amounts_of bs 1; high = amounts_of bs 33 }
+asked_of bs = record { size = slice_index bs 0; band = record { low = amounts_of bs 1; high = amounts_of bs 33 } }

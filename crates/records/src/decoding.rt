@@ -4,6 +4,7 @@ ghost use Rattle.records.specs.Bytes.{of4, amount_of, amounts_of, entry_of, aske
 
 use crossed::asked::Question;
 use crossed::entries::{Amounts, Entry};
+use measure::Band;
 use std::array;
 
 // The byte at a place, 0 past the end.
@@ -61,7 +62,7 @@ pub fn entry_in(body: &[u8]) -> Entry
 {
     Entry {
         number: number_in(body),
-        amounts: amounts_at(body, 4),
+        value: amounts_at(body, 4),
     }
 }
 
@@ -71,7 +72,9 @@ pub fn asked_in(body: &[u8]) -> Question
 {
     Question {
         size: usize::from(byte(body, 0)),
-        low: amounts_at(body, 1),
-        high: amounts_at(body, 33),
+        band: Band {
+            low: amounts_at(body, 1),
+            high: amounts_at(body, 33),
+        },
     }
 }

@@ -9,7 +9,7 @@ use Rattle.crossed.specs.declared.entries.Columns.{Columns}
 use Rattle.crossed.specs.declared.entries.Columns.TheVariants.{One, Two, Three, Four}
 use Rattle.crossed.specs.Entries.{columns_of, count_of}
 use Rattle.rollfile.specs.Laws.{EntriesBack, BodiesBack, ColumnsBack}
-use Rattle.crossed.specs.declared.entries.Entry.{Entry}
+use Rattle.crossed.specs.Entries.{Entry}
 use Rattle.records.specs.Bytes.{be4, be8, of4, of8, amount_bytes, amount_of}
 
 -- four bytes say the number that they were made of
@@ -25,13 +25,13 @@ amount z f = ap (to_z w64) (omega (arith, from_be_bytes-to_be_bytes_8 (of_z w64 
     of_z-lt (negsuc n) g = omega (arith, g.sfits)
 
 -- entries are equal if each part is
-same_entry : {n n' : ℕ} {a a' b b' c c' d d' : ℤ} → n ≡ n' → a ≡ a' → b ≡ b' → c ≡ c' → d ≡ d' → ◌≡◌ {A = Entry} (record { number = n; amounts = record { first = a; second = b; third = c; fourth = d } }) (record { number = n'; amounts = record { first = a'; second = b'; third = c'; fourth = d' } })
+same_entry : {n n' : ℕ} {a a' b b' c c' d d' : ℤ} → n ≡ n' → a ≡ a' → b ≡ b' → c ≡ c' → d ≡ d' → ◌≡◌ {A = Entry} (record { number = n; value = record { first = a; second = b; third = c; fourth = d } }) (record { number = n'; value = record { first = a'; second = b'; third = c'; fourth = d' } })
 same_entry p q r s t = cc
 
 -- the body of an entry says that entry
 pub entries_back : EntriesBack
 entries_back e f =
-    let a = e.amounts in
+    let a = e.value in
     same_entry (four e.number f.number) (amount a.first f.first) (amount a.second f.second) (amount a.third f.third) (amount a.fourth f.fourth)
 
 -- each byte of a list, and 0 past its end

@@ -3,7 +3,7 @@ use Rattle.std.proofs.Common.{◌≡◌, ℕ, ◌+◌, ◌*◌, ◌<◌, ◌≤�
 use Rattle.std.specs.List.{flat_map}
 use Rattle.std.proofs.lemmas.Grind.{common_steps}
 use Rattle.std.proofs.lemmas.List.{append_assoc, length-append, length-take-le, take_at, drop_at, drop-drop, take_more, flat_map_more}
-use Rattle.crossed.specs.declared.entries.Entry.{Entry}
+use Rattle.crossed.specs.Entries.{Entry}
 use Rattle.crossed.specs.declared.entries.Columns.{Columns}
 use Rattle.records.specs.Bytes.{entry_bytes, heading_bytes}
 use Rattle.rollfile.specs.Files.{writes}

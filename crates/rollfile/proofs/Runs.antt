@@ -3,7 +3,7 @@ use Rattle.std.proofs.Common.{◌≡◌, ℕ, zero, suc, ◌+◌, ◌<◌, ◌�
 use Rattle.std.proofs.lemmas.List.{drop_more, drop_all, drop-drop}
 use Rattle.std.proofs.lemmas.Bool.{ne_eqb}
 use Rattle.std.proofs.lemmas.Bool.Decides.{nat_tests, leb_tells}
-use Rattle.crossed.specs.declared.entries.Entry.{Entry}
+use Rattle.crossed.specs.Entries.{Entry}
 use Rattle.crossed.specs.declared.entries.Columns.{Columns}
 use Rattle.records.specs.declared.reader.Fault.{Fault}
 use Rattle.roll.specs.declared.refusal.Refusal.{Refusal}
@@ -90,10 +90,10 @@ module _ (reader : Reader) (roll : Roll) (behind : Behind reader) where
   left o next q = ap (continues roll.columns (room_of roll) reader.bytes.now (standing roll) reader.place) q.answer ∙ sym (run_step roll.columns (room_of roll) reader.bytes.now (standing roll) reader.place behind.positive behind.short)
 
   pub ran_fault : (f : Fault) (next : Reader) → ReadNext reader (Err f) next → Ran reader roll (Err f) roll
-  ran_fault f next q = record { answer = left (Err f) next q; room = refl; sound = λ s. s }
+  ran_fault f next q = record { answer = left (Err f) next q; room = refl }
 
   pub ran_end : (next : Reader) → ReadNext reader (Ok None) next → Ran reader roll (Ok tt) roll
-  ran_end next q = record { answer = left (Ok None) next q; room = refl; sound = λ s. s }
+  ran_end next q = record { answer = left (Ok None) next q; room = refl }
 
   module _ (item : Record) (next : Reader) (q : ReadNext reader (Ok (Some item)) next) where
     -- what is left once the record is applied
@@ -105,7 +105,7 @@ module _ (reader : Reader) (roll : Roll) (behind : Behind reader) where
 
     pub ran_refused : (r : Result (Unit {0}) Refusal) (f : Fault) (is : Roll) → located reader.place r ≡ Err f → Applied roll (plain item) r is → Ran reader roll (Err f) is
     ran_refused (Ok u) f is e a = absurd (cc)
-    ran_refused (Err g) f is e a = record { answer = ap (λ x. holds x is) (sym e) ∙ gone_on (Err g) is a; room = a.room; sound = a.sound }
+    ran_refused (Err g) f is e a = record { answer = ap (λ x. holds x is) (sym e) ∙ gone_on (Err g) is a; room = a.room }
 
     pub ran_on : (r : Result (Unit {0}) Refusal) (mid : Roll) → located reader.place r ≡ Ok tt → Applied roll (plain item) r mid → (s : Result (Unit {0}) Fault) (is : Roll) → Ran next mid s is → Ran reader roll s is
     ran_on (Err g) mid e a s is h = absurd (cc)
@@ -117,5 +117,4 @@ module _ (reader : Reader) (roll : Roll) (behind : Behind reader) where
           ∙ ap (λ b. run roll.columns (room_of roll) (drop next.place b) (standing mid) 0 next.place) q.file
           ∙ gone_on (Ok u) mid a;
       room = h.room ∙ a.room;
-      sound = λ k. h.sound (a.sound k);
     }

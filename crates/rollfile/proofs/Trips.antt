@@ -3,7 +3,7 @@ use Rattle.std.proofs.Common.{◌≡◌, ℕ, ◌+◌, ◌<◌, ◌≤◌, min, 
 use Rattle.std.specs.List.{flat_map, All, AllByRecursion}
 use Rattle.std.proofs.lemmas.List.Elements.{All-weaker, All-push, recursion_from_All}
 use Rattle.std.proofs.lemmas.List.{take_at, drop_at, length-append, length_push, append_assoc, append-nil}
-use Rattle.crossed.specs.declared.entries.Entry.{Entry}
+use Rattle.crossed.specs.Entries.{Entry}
 use Rattle.crossed.specs.declared.entries.Columns.{Columns}
 use Rattle.records.specs.declared.reader.Fault.{Fault}
 use Rattle.roll.specs.declared.refusal.Refusal.TheVariants.{TooLong}
@@ -12,7 +12,7 @@ use Rattle.crossed.specs.Rolls.{standing}
 use Rattle.std.proofs.lemmas.Bool.Decides.{nat_tests}
 use Rattle.crossed.specs.Books.{numbered, put}
 use Rattle.crossed.specs.Reachable.{Rising, Admitted, WellFormed}
-use Rattle.crossed.proofs.Kept.{always_well_formed}
+use Rattle.crossed.proofs.Kept.{always_well_formed, well_formed}
 use Rattle.records.specs.Bytes.{entry_body, entry_bytes, heading_bytes}
 use Rattle.rollfile.specs.Files.{then, stepped, run, opened, reads, writes}
 use Rattle.rollfile.specs.Laws.{Fitting, RoundTrip, SameBytes}
@@ -86,7 +86,7 @@ pub written_short : (r : Roll) (out is : List ℕ) → length out < length (writ
 written_short r out is h e = record {
   answer = grind (arith, nat_tests);
   output = e ∙ grind (arith, nat_tests);
-  reads_back = λ was n room q. absurd (cc);
+  reads_back = λ n room q. absurd (cc);
 }
 
 -- where there is room, what was written reads back
@@ -94,8 +94,8 @@ pub written_whole : (r : Roll) (out is : List ℕ) (m : ℕ) → m ≡ length (w
 written_whole r out is m size h e = record {
   answer = grind (arith, nat_tests);
   output = e ∙ grind (arith, nat_tests);
-  reads_back = λ was n room q fit. (
+  reads_back = λ n room q fit. (
       let bs : List ℕ = writes r.columns (standing r) in
       let long : length bs ≡ n = cc in
-      ap (λ l. reads l room) (ap (take n) e ∙ take_at bs (drop (0 + length bs) out) n long) ∙ round_trip r.columns (standing r) was room fit);
+      ap (λ l. reads l room) (ap (take n) e ∙ take_at bs (drop (0 + length bs) out) n long) ∙ sound_trip r.columns (standing r) (well_formed r) room fit);
 }

@@ -2,13 +2,13 @@
 use Rattle.std.specs.Prelude.{◌≡◌, ℕ, zero, suc, ◌+◌, true, false, List, [], ◌∷◌, ◌++◌, drop, replicate, is_ok, Some, None, Ok, Err, Option, Result, slice_index}
 use Rattle.std.specs.List.{flat_map}
 use Rattle.roll.specs.declared.refusal.Refusal.{Refusal}
-use Rattle.crossed.specs.declared.entries.Entry.{Entry}
+use Rattle.crossed.specs.Entries.{Entry}
 use Rattle.crossed.specs.declared.entries.Columns.{Columns}
 use Rattle.crossed.specs.declared.entries.Columns.TheVariants.{One}
 use Rattle.crossed.specs.declared.rolls.Roll.{Roll}
 use Rattle.crossed.specs.Entries.{columns_of, zero_entry}
 use Rattle.crossed.specs.Books.{put, without, enters, strikes, if_ok}
-use Rattle.crossed.specs.Rolls.{standing, room_of, Sound}
+use Rattle.crossed.specs.Rolls.{standing, room_of, memory_of}
 use Rattle.records.specs.declared.reader.Fault.{Fault}
 use Rattle.records.specs.declared.reader.Reader.{Reader}
 use Rattle.records.specs.Bytes.{of4, entry_of, entry_bytes, heading_bytes}
@@ -90,7 +90,6 @@ pub record Applied (was : Roll) (rec : Rec) (r : Result (Unit {0}) Refusal) (is 
   pub answer : if_ok r (standing is) ≡ applied was.columns (room_of was) (standing was) rec
   pub columns : is.columns ≡ was.columns
   pub room : room_of is ≡ room_of was
-  pub sound : Sound was → Sound is
 
 -- the heading is read: the columns, and how the reader stands then
 pub record Started (was : Reader) (r : Result Columns Fault) (is : Reader) : Type 0 where
@@ -102,13 +101,11 @@ pub record Started (was : Reader) (r : Result Columns Fault) (is : Reader) : Typ
 pub record Ran (reader : Reader) (was : Roll) (r : Result (Unit {0}) Fault) (is : Roll) : Type 0 where
   pub answer : holds r is ≡ run was.columns (room_of was) (drop reader.place reader.bytes.now) (standing was) 0 reader.place
   pub room : room_of is ≡ room_of was
-  pub sound : Sound was → Sound is
 
 -- a roll is read from a file, up to the first fault
 pub record Loaded (bs : List ℕ) (was : Roll) (r : Result (Unit {0}) Fault) (is : Roll) : Type 0 where
   pub answer : holds r is ≡ reads bs (room_of was)
   pub room : room_of is ≡ room_of was
-  pub sound : is_ok r ≡ true → Sound is
 
 -- a roll is read from a file, or cleared after a fault
 pub record Filled (bs : List ℕ) (was : Roll) (r : Result (Unit {0}) Fault) (is : Roll) : Type 0 where
@@ -116,8 +113,7 @@ pub record Filled (bs : List ℕ) (was : Roll) (r : Result (Unit {0}) Fault) (is
   pub columns : is.columns ≡ columns_read (reads bs (room_of was))
   pub stands : standing is ≡ entries_read (reads bs (room_of was))
   pub room : room_of is ≡ room_of was
-  pub memory : ZeroAfterFault (reads bs (room_of was)) (room_of was) is.cells.now
-  pub sound : Sound is
+  pub memory : ZeroAfterFault (reads bs (room_of was)) (room_of was) (memory_of is)
 
 -- a file is tested with so many cells
 pub record Checked (bs : List ℕ) (n : ℕ) (r : Result (Unit {0}) Fault) (cells : List Entry) : Type 0 where
@@ -129,5 +125,4 @@ pub record Read (bs : List ℕ) (n : ℕ) (is : Roll) : Type 0 where
   pub columns : is.columns ≡ columns_read (reads bs n)
   pub stands : standing is ≡ entries_read (reads bs n)
   pub room : room_of is ≡ n
-  pub memory : ZeroAfterFault (reads bs n) n is.cells.now
-  pub sound : Sound is
+  pub memory : ZeroAfterFault (reads bs n) n (memory_of is)

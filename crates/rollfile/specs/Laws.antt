@@ -2,7 +2,7 @@
 use Rattle.std.specs.Prelude.{◌≡◌, ℕ, ◌^◌, ◌<◌, ◌≤◌, List, length, Ok, FitsSigned}
 use Rattle.std.specs.Int.{w64}
 use Rattle.std.specs.List.{AllByRecursion}
-use Rattle.crossed.specs.declared.entries.Entry.{Entry}
+use Rattle.crossed.specs.Entries.{Entry}
 use Rattle.crossed.specs.declared.entries.Columns.{Columns}
 use Rattle.crossed.specs.Entries.{columns_of, count_of}
 use Rattle.crossed.specs.Reachable.{Reachable}
@@ -12,10 +12,10 @@ use Rattle.rollfile.specs.Files.{reads, writes}
 -- an entry that its fields can hold
 pub record Fitting (e : Entry) : Type 0 where
   pub number : e.number < 2 ^ 32
-  pub first : FitsSigned w64 e.amounts.first
-  pub second : FitsSigned w64 e.amounts.second
-  pub third : FitsSigned w64 e.amounts.third
-  pub fourth : FitsSigned w64 e.amounts.fourth
+  pub first : FitsSigned w64 e.value.first
+  pub second : FitsSigned w64 e.value.second
+  pub third : FitsSigned w64 e.value.third
+  pub fourth : FitsSigned w64 e.value.fourth
 
 -- the body of an entry says that entry
 abbrev pub EntriesBack : Type 0

@@ -3,7 +3,7 @@ use Rattle.std.specs.Prelude.{◌≡◌, ℕ, ◌+◌, ◌≤◌, cond, List, �
 use Rattle.roll.specs.declared.refusal.Refusal.{Refusal}
 use Rattle.roll.specs.declared.refusal.Refusal.TheVariants.{TooLong}
 use Rattle.crossed.specs.declared.rolls.Roll.{Roll}
-use Rattle.crossed.specs.Rolls.{standing, Sound}
+use Rattle.crossed.specs.Rolls.{standing}
 use Rattle.rollfile.specs.declared.encoding.Writer.{Writer}
 use Rattle.rollfile.specs.Files.{reads, writes}
 
@@ -30,4 +30,4 @@ output_after out bs = cond (nat_lt (length out) (length bs)) (replicate (length 
 pub record Written (roll : Roll) (was : List ℕ) (r : Result ℕ Refusal) (is : List ℕ) : Type 0 where
   pub answer : r ≡ written was (writes roll.columns (standing roll))
   pub output : is ≡ output_after was (writes roll.columns (standing roll))
-  pub reads_back : Sound roll → (n room : ℕ) → r ≡ Ok n → length (standing roll) ≤ room → reads (take n is) room ≡ Ok (roll.columns, standing roll)
+  pub reads_back : (n room : ℕ) → r ≡ Ok n → length (standing roll) ≤ room → reads (take n is) room ≡ Ok (roll.columns, standing roll)

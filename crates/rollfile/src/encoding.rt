@@ -38,10 +38,10 @@ impl<'a> Writer<'a> {
     {
         self.put(&[Kind::Entry as u8]);
         self.put(&one.number.to_be_bytes());
-        self.put(&one.amounts.first.to_be_bytes());
-        self.put(&one.amounts.second.to_be_bytes());
-        self.put(&one.amounts.third.to_be_bytes());
-        self.put(&one.amounts.fourth.to_be_bytes());
+        self.put(&one.value.first.to_be_bytes());
+        self.put(&one.value.second.to_be_bytes());
+        self.put(&one.value.third.to_be_bytes());
+        self.put(&one.value.fourth.to_be_bytes());
     }
 }
 
@@ -49,10 +49,5 @@ impl<'a> Writer<'a> {
 pub(crate) fn heading_of(columns: Columns) -> [u8; 2]
     ensures { result ≡ heading_bytes columns }
 {
-    match columns {
-        Columns::One => [1, 1],
-        Columns::Two => [1, 2],
-        Columns::Three => [1, 3],
-        Columns::Four => [1, 4],
-    }
+    [Kind::Heading as u8, columns as u8]
 }

@@ -4,8 +4,9 @@ ghost use Rattle.crossed.specs.Entries.{columns_of};
 ghost use Rattle.records.specs.Records.{plain, located, Behind};
 ghost use Rattle.rollfile.specs.Files.{opened, Applied, Started, Ran, Loaded, Filled, Checked, Read};
 
-use crossed::entries::{Columns, Entry, columns_of};
-use crossed::rolls::{Roll, clear, open};
+use crossed::entering::{BLANK, open};
+use crossed::entries::{Columns, Entry};
+use crossed::rolls::Roll;
 use records::decoding::{entry_in, heading_in, number_in};
 use records::reader::{Fault, Reader, Record};
 use roll::refusal::Refusal;
@@ -25,7 +26,7 @@ pub fn apply(roll: &mut Roll, item: Record) -> Result<(), Refusal>
 fn heading_columns(body: &[u8]) -> Result<Columns, Fault>
     ensures { result ≡ located 0 (columns_of (slice_index body.now 0)) }
 {
-    columns_of(heading_in(body)).map_err(|refusal| Fault::new(refusal, 0, false))
+    Columns::try_from(heading_in(body)).map_err(|refusal| Fault::new(refusal, 0, false))
 }
 
 // Reads the heading.
@@ -87,7 +88,7 @@ pub fn check_file(bytes: &[u8], cells: &mut [Entry]) -> Result<(), Fault>
 {
     let read = fill(bytes, &mut open(cells, Columns::One));
     if read.is_err() {
-        clear(cells);
+        cells.fill(BLANK);
     }
     read
 }

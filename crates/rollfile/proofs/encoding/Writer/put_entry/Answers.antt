@@ -6,7 +6,7 @@ use Rattle.rollfile.proofs.encoding.Writer.put_entry.Goals as goal
 
 pub returns : goal.returns
 returns c =
-    let a = c.args.one.amounts in
+    let a = c.args.one.value in
     let f1 : SFits w64 a.first = search rules in
     let f2 : SFits w64 a.second = search rules in
     let f3 : SFits w64 a.third = search rules in
