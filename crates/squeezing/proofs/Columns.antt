@@ -57,3 +57,7 @@ pub offset_fewer : (n k m : ℕ) → k ≤ m → offset n k ≤ offset n m
 offset_fewer n k m h =
     let e : k + (m - k) ≡ m = omega arith in
     omega (arith, offset_up n k (m - k), ap (offset n) e)
+
+-- the column of k neighbours lies in a table that is long enough for m columns
+pub column_within : (n k m cells : ℕ) → 1 ≤ k → k ≤ m → m ≤ n → offset n m ≤ cells → offset n (k - 1) + (n - k + 1) ≤ cells
+column_within n k m cells some few fits long = omega (arith, offset_from n k some (omega arith), offset_fewer n k m few)

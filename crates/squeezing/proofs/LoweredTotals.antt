@@ -1,5 +1,5 @@
 -- What a turn of lowering a position has added up, and what it leaves to try.
-use Rattle.std.proofs.Common.{◌≡◌, ℕ, zero, suc, ◌+◌, ◌-◌, ◌<◌, ◌≤◌, Bool, true, false, List, ◌++◌, length, get_or, take, drop, set, Some, sym, ap, ◌∙◌, subst, ⊎_elim, arith, length-append, length-drop}
+use Rattle.std.proofs.Common.{◌≡◌, ℕ, zero, suc, ◌+◌, ◌-◌, ◌<◌, ◌≤◌, Bool, true, false, List, ◌++◌, length, get_or, take, drop, set, Some, None, sym, ap, ◌∙◌, subst, ⊎_elim, arith, length-append, length-drop}
 use Rattle.std.specs.List.{range_with_len}
 use Rattle.std.proofs.lemmas.List.FromFn.{length-range_with_len}
 use Rattle.std.proofs.lemmas.List.{get_or-set_same, get_or-set_other, length-take-le}
@@ -25,6 +25,11 @@ greatest_to_here f v bottom h = greatest_here f v (v + 1 - bottom) (omega arith)
 
 pub greatest_to_next : (f : ℕ → Bool) (v bottom : ℕ) → 1 ≤ bottom → bottom ≤ v → f v ≡ false → greatest f v (v + 1 - bottom) ≡ greatest f (v - 1) (v - 1 + 1 - bottom)
 greatest_to_next f v bottom l h = greatest_next f v (v + 1 - bottom) (v - 1 + 1 - bottom) (omega arith)
+
+pub greatest_to_none : (f : ℕ → Bool) (v bottom : ℕ) → v ≤ bottom → bottom ≤ v → f v ≡ false → None ≡ greatest f v (v + 1 - bottom)
+greatest_to_none f v bottom l h e =
+    let last : v + 1 - bottom ≡ 0 + 1 = omega arith in
+    sym (greatest_next f v (v + 1 - bottom) 0 last e)
 
 pub prefix_set : {M : Type 0} (a : Algebra) (row : M → Row) (span : M → ℕ) (n m : ℕ) (table : List M) (lo : List ℕ) (totals : List M) (j : ℕ) (r : M) → j + 1 < length totals → ((k : ℕ) (d : M) → k ≤ j → Stands a row span n m table (take k lo) (get_or totals k d)) → Stands a row span n m table (take (j + 1) lo) r → (k : ℕ) (d : M) → k ≤ j + 1 → Stands a row span n m table (take k lo) (get_or (set totals (j + 1) r) k d)
 prefix_set a row span n m table lo totals j r within rest here k d h =

@@ -1,5 +1,5 @@
 -- What a turn of raising a position has added up, and what it leaves to try.
-use Rattle.std.proofs.Common.{◌≡◌, ℕ, zero, suc, ◌+◌, ◌-◌, ◌<◌, ◌≤◌, Bool, true, false, List, ◌++◌, length, get_or, take, drop, set, Some, sym, ap, ◌∙◌, subst, ⊎_elim, arith, length-append, length-drop, below_more}
+use Rattle.std.proofs.Common.{◌≡◌, ℕ, zero, suc, ◌+◌, ◌-◌, ◌<◌, ◌≤◌, Bool, true, false, List, ◌++◌, length, get_or, take, drop, set, Some, None, sym, ap, ◌∙◌, subst, ⊎_elim, arith, length-append, length-drop, below_more}
 use lib.Seq.{drop-length}
 use Rattle.std.specs.List.{range_with_len}
 use Rattle.std.proofs.lemmas.List.FromFn.{length-range_with_len}
@@ -26,6 +26,11 @@ least_to_here f v top h = least_here f v (top + 1 - v) (omega arith)
 
 pub least_to_next : (f : ℕ → Bool) (v top : ℕ) → v ≤ top → f v ≡ false → least f v (top + 1 - v) ≡ least f (v + 1) (top + 1 - (v + 1))
 least_to_next f v top h = least_next f v (top + 1 - v) (top + 1 - (v + 1)) (omega arith)
+
+pub least_to_none : (f : ℕ → Bool) (v top : ℕ) → top ≤ v → v ≤ top → f v ≡ false → None ≡ least f v (top + 1 - v)
+least_to_none f v top l h e =
+    let last : top + 1 - (v + 1) ≡ 0 = omega arith in
+    sym (least_to_next f v top h e ∙ ap (least f (v + 1)) last)
 
 -- `plus` gave r
 abbrev pub Adds : {M : Type 0} → Algebra → (M → Row) → (M → ℕ) → M → M → M → Type 0

@@ -1,22 +1,21 @@
 ghost use Rattle.std.specs.Prelude.{◌≡◌, ℕ, ◌+◌, ◌-◌, ◌<◌, ◌≤◌, length, take, Some, slice_index};
 ghost use Rattle.sets.specs.Spaces.{lower as lowers};
-ghost use Rattle.squeezing.specs.Table.{Stands, Holds, entries, offset};
+ghost use Rattle.squeezing.specs.Table.{Stands, Holds, entries};
 ghost use Rattle.squeezing.specs.Standing.{Back as BackIs, Higher, Places, Prefixes};
 
-use crate::table::neighbours;
+use crate::table::Totals;
 use measure::Measure;
 
 // Writes the total of the lower places before each index.
-pub(crate) fn lower_totals<M: Measure>(table: &[M], n: usize, lo: &[u16], totals: &mut [M])
-    requires small { n ≤ 120 }
-    requires sized { offset n (length lo.now) ≤ length table.now }
-    requires places { Places n lo.now }
-    requires room { length lo.now < length totals.old }
-    ensures { Prefixes M.algebra M.Measure.row M.span n (length lo.now) table.now lo.now totals.new }
+pub(crate) fn lower_totals<M: Measure>(totals: &Totals<M>, lo: &[u16], room: &mut [M])
+    requires many { length lo.now ≡ totals.now.m }
+    requires places { Places totals.now.n lo.now }
+    requires room { length lo.now < length room.old }
+    ensures { Prefixes M.algebra M.Measure.row M.span totals.now.n totals.now.m totals.now.values.now lo.now room.new }
 {
-    totals[0] = M::nothing();
-    for j in 0..lo.len() {
-        totals[j + 1] = totals[j].plus(neighbours(table, n, lo[j] as usize, 1));
+    room[0] = M::nothing();
+    for (j, place) in lo.iter().enumerate() {
+        room[j + 1] = room[j].plus(totals.neighbours(*place as usize, 1));
     }
 }
 
@@ -27,13 +26,29 @@ pub struct Back<M> {
     pub after: M,
 }
 
+impl<M: Measure> Back<M> {
+    // Goes on to the lower places that hold the position at index `i` from `v` down.
+    fn advance(&mut self, totals: &Totals<M>, lo: &[u16], i: usize, v: u16)
+        requires many { length lo.now ≡ totals.now.m }
+        requires places { Places totals.now.n lo.now }
+        requires so_far { BackIs M.algebra M.Measure.row M.span totals.now.n totals.now.m totals.now.values.now lo.now i v self.old.end self.old.after }
+        ensures on { BackIs M.algebra M.Measure.row M.span totals.now.n totals.now.m totals.now.values.now lo.now i v self.new.end self.new.after }
+        ensures free { i + 1 < self.new.end → slice_index lo.now (self.new.end - 1) < v + (self.new.end - 1 - i) }
+    {
+        while self.end > i + 1 && lo[self.end - 1] as usize >= v as usize + (self.end - 1 - i) {
+            self.end -= 1;
+            let next = totals.neighbours(lo[self.end] as usize, 1);
+            self.after = next.plus(self.after);
+        }
+    }
+}
+
 // Lowering the position at index `i`: the greatest place, down to its lower one, with which the lowest total is not above
 // `high`. That total has three parts: the lower places before `i`, whose total is `before`, a free stretch of neighbours that
 // begins with the place that is tried, and the lower places that hold the position. `back`, the last part, goes on from the
 // position after.
 pub(crate) fn lower<M: Measure>(
-    table: &[M],
-    n: usize,
+    totals: &Totals<M>,
     lo: &[u16],
     hi: &[u16],
     i: usize,
@@ -41,35 +56,28 @@ pub(crate) fn lower<M: Measure>(
     before: M,
     high: M,
 ) -> Option<u16>
-    requires small { n ≤ 120 }
-    requires sized { offset n (length lo.now) ≤ length table.now }
-    requires places { Places n lo.now }
-    requires higher { Higher n hi.now }
+    requires many { length lo.now ≡ totals.now.m }
+    requires places { Places totals.now.n lo.now }
+    requires higher { Higher totals.now.n hi.now }
     requires within { i < length lo.now }
     requires same { length hi.now ≡ length lo.now }
-    requires so_far { BackIs M.algebra M.Measure.row M.span n (length lo.now) table.now lo.now i (slice_index hi.now (i + 1) - 1) back.old.end back.old.after }
-    requires rest { Stands M.algebra M.Measure.row M.span n (length lo.now) table.now (take i lo.now) before }
+    requires so_far { BackIs M.algebra M.Measure.row M.span totals.now.n totals.now.m totals.now.values.now lo.now i (slice_index hi.now (i + 1) - 1) back.old.end back.old.after }
+    requires rest { Stands M.algebra M.Measure.row M.span totals.now.n totals.now.m totals.now.values.now (take i lo.now) before }
     ensures found { (v : ℕ) → result ≡ Some v → (slice_index lo.now i ≤ v) × (v ≤ slice_index hi.now i) × (i + 1 < length hi.now → v ≤ slice_index hi.now (i + 1) - 1) }
-    ensures place { Holds M.algebra M.Measure.row M.span n (length lo.now) table.now → result ≡ lowers M.algebra (entries M.Measure.row n table.now) (M.Measure.row high) lo.now hi.now (i + 1) }
-    ensures on { (v : ℕ) → result ≡ Some v → BackIs M.algebra M.Measure.row M.span n (length lo.now) table.now lo.now i v back.new.end back.new.after }
+    ensures place { Holds M.algebra M.Measure.row M.span totals.now.n totals.now.m totals.now.values.now → result ≡ lowers M.algebra (entries M.Measure.row totals.now.n totals.now.values.now) (M.Measure.row high) lo.now hi.now (i + 1) }
+    ensures on { (v : ℕ) → result ≡ Some v → BackIs M.algebra M.Measure.row M.span totals.now.n totals.now.m totals.now.values.now lo.now i v back.new.end back.new.after }
 {
-    let mut v = hi[i];
+    let mut greatest = hi[i];
     if i + 1 < hi.len() {
-        v = v.min(hi[i + 1] - 1);
+        greatest = greatest.min(hi[i + 1] - 1);
     }
-    'places: while v >= lo[i] {
-        'held: while back.end > i + 1
-            && lo[back.end - 1] as usize >= v as usize + (back.end - 1 - i)
-        {
-            back.end -= 1;
-            back.after = neighbours(table, n, lo[back.end] as usize, 1).plus(back.after);
-        }
-        let run = neighbours(table, n, v as usize, back.end - i);
+    'places: for v in (lo[i]..=greatest).rev() {
+        back.advance(totals, lo, i, v);
+        let run = totals.neighbours(v as usize, back.end - i);
         let sum = before.plus(run).plus(back.after);
         if sum.not_above(high) {
             return Some(v);
         }
-        v -= 1;
     }
     None
 }

@@ -5,4 +5,5 @@ use Rattle.squeezing.proofs.raising.upper_totals.Given as goal
 abbrev pub invariant-loop-j : goal.invariant-loop-j
 invariant-loop-j g l =
     let m = g.M.Measure in
-    ((k : ℕ) (d : g.row.M.Denot) → l.j ≤ k → k ≤ length l.hi → Stands m.algebra m.row m.span l.n (length l.hi) l.table (drop k l.hi) (get_or l.totals k d))
+    let t = l.totals in
+    (k : ℕ) (d : g.row.M.Denot) → l.j ≤ k → k ≤ length l.hi → Stands m.algebra m.row m.span t.n t.m t.values.now (drop k l.hi) (get_or l.room k d)
