@@ -6,4 +6,3 @@ pub mod RaisingPass
 pub mod LoweredTotals
 pub mod LoweringPass
 pub mod Squeezed
-pub mod Framing

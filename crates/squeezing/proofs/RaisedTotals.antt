@@ -1,6 +1,5 @@
 -- What a turn of raising a position has added up, and what it leaves to try.
 use Rattle.std.proofs.Common.{◌≡◌, ℕ, zero, suc, ◌+◌, ◌-◌, ◌<◌, ◌≤◌, Bool, true, false, List, ◌++◌, length, get_or, take, drop, set, Some, None, sym, ap, ◌∙◌, subst, ⊎_elim, arith, length-append, length-drop, below_more}
-use lib.Seq.{drop-length}
 use Rattle.std.specs.List.{range_with_len}
 use Rattle.std.proofs.lemmas.List.FromFn.{length-range_with_len}
 use Rattle.std.proofs.lemmas.List.{get_or-set_same, get_or-set_other, take_more, drop_more, length-take-le}
@@ -9,7 +8,7 @@ use Rattle.measure.specs.Algebra.{Algebra, Laws, Row}
 use Rattle.sets.specs.Spaces.{least, raised}
 use Rattle.squeezing.specs.Table.{Stands}
 use Rattle.squeezing.specs.Standing.{Front, Places}
-use Rattle.squeezing.proofs.Sums.{Inside, stands_none, join, inside-append, inside_take, inside-drop, inside_counting, inside-places, places_few}
+use Rattle.squeezing.proofs.Sums.{Inside, join, inside-append, inside_take, inside-drop, inside_counting, inside-places, places_few}
 use Rattle.squeezing.proofs.Splits.{rises, raised_split}
 
 pub least_here : (f : ℕ → Bool) (v n : ℕ) → 0 < n → f v ≡ true → least f v n ≡ Some v
@@ -38,13 +37,6 @@ Adds a row span x y r = span x + span y ≤ 240 → (row r ≡ a.plus (row x) (r
 
 -- the totals from an index on, as they are written down from the last
 module _ {M : Type 0} (a : Algebra) (row : M → Row) (span : M → ℕ) (n m : ℕ) (table : List M) (hi : List ℕ) (totals : List M) where
-  pub suffix_last : (r : M) → length hi < length totals → (row r ≡ a.nothing) × (span r ≡ 0) → (k : ℕ) (d : M) → length hi ≤ k → k ≤ length hi → Stands a row span n m table (drop k hi) (get_or (set totals (length hi) r) k d)
-  suffix_last r room none k d h l =
-      let e : length hi ≡ k = omega arith in
-      let at_end : Stands a row span n m table (drop (length hi) hi) (get_or (set totals (length hi) r) (length hi) d) =
-      rw (drop-length hi, get_or-set_same totals (length hi) r d room) (stands_none a row span n m table r none) in
-      subst (λ q. Stands a row span n m table (drop q hi) (get_or (set totals (length hi) r) q d)) e at_end
-
   pub suffix_set : (j : ℕ) (r : M) → j < length totals → ((k : ℕ) (d : M) → j + 1 ≤ k → k ≤ length hi → Stands a row span n m table (drop k hi) (get_or totals k d)) → Stands a row span n m table (drop j hi) r → (k : ℕ) (d : M) → j ≤ k → k ≤ length hi → Stands a row span n m table (drop k hi) (get_or (set totals j r) k d)
   suffix_set j r within rest here k d h l =
       ⊎_elim

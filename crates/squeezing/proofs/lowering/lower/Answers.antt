@@ -1,4 +1,4 @@
-use Rattle.std.proofs.Common.{◌≡◌, ◌+◌, ◌-◌, ◌<◌, length, get_or, sym, ap, ◌∙◌, arith}
+use Rattle.std.proofs.Common.{◌≡◌, ◌+◌, get_or, sym, ap, ◌∙◌, arith}
 use Rattle.sets.specs.Spaces.{lowered, stays}
 use Rattle.squeezing.specs.Table.{Stands, Holds, entries}
 use Rattle.squeezing.proofs.LoweredTotals.{lowered_stands, greatest_to_here, greatest_to_next, greatest_to_none}

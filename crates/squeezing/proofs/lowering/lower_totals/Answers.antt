@@ -1,4 +1,4 @@
-use Rattle.std.proofs.Common.{◌<◌, length, take, sym, subst, arith}
+use Rattle.std.proofs.Common.{take, sym, subst, arith}
 use Rattle.std.proofs.lemmas.List.{length-set}
 use Rattle.squeezing.specs.Table.{Stands}
 use Rattle.squeezing.proofs.RaisedTotals.{prefix_more}

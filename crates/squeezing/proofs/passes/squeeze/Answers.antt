@@ -1,6 +1,6 @@
 use Rattle.std.proofs.Common.{◌≡◌, ◌+◌, ◌-◌, ◌<◌, ◌≤◌, length, get_or, sym, refl, ◌∙◌, arith}
 use Rattle.std.proofs.lemmas.List.{length-set}
-use Rattle.sets.specs.Spaces.{space, widths, raise_from, lower_from}
+use Rattle.sets.specs.Spaces.{space, raise_from, lower_from}
 use Rattle.squeezing.specs.Table.{Holds, entries}
 use Rattle.squeezing.proofs.LoweringPass.{Lowered, Sunk, lower_from_none, lower_from_some, higher-set, lowered-set, fell-set, back_next, back_none, sunk_all}
 use Rattle.squeezing.proofs.RaisingPass.{Swept, raise_from_none, raise_from_some, lower-set, settled-set, rose-set, front_next, swept_all}
@@ -8,9 +8,6 @@ use Rattle.squeezing.proofs.Squeezed.{places-higher, swept_places, passed, still
 use Rattle.squeezing.proofs.passes.squeeze.Given.{Over}
 use Rattle.squeezing.proofs.passes.squeeze.Goals as goal
 use Rattle.squeezing.proofs.passes.squeeze.Goals.{After-lower_totals, After-lowering}
-
-pub passes-init : goal.passes-init
-passes-init g c = (c.requires.fair, refl, (λ j. omega arith), (λ j. omega arith), (widths c.args.lo.now c.args.hi.now, omega arith, λ held. refl))
 
 pub raising-preserved : goal.raising-preserved
 raising-preserved g c =

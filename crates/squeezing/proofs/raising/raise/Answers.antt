@@ -1,4 +1,4 @@
-use Rattle.std.proofs.Common.{◌≡◌, ◌+◌, ◌-◌, ◌<◌, length, get_or, sym, ap, ◌∙◌, arith}
+use Rattle.std.proofs.Common.{◌≡◌, ◌+◌, get_or, sym, ap, ◌∙◌, arith}
 use Rattle.sets.specs.Spaces.{raised, reaches}
 use Rattle.squeezing.specs.Table.{Stands, Holds, entries}
 use Rattle.squeezing.proofs.RaisedTotals.{raised_stands, least_to_here, least_to_next, least_to_none}

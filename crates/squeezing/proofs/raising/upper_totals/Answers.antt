@@ -1,14 +1,8 @@
-use Rattle.std.proofs.Common.{◌+◌, ◌-◌, ◌<◌, length, drop, sym, subst, arith}
+use Rattle.std.proofs.Common.{◌+◌, ◌-◌, length, drop, sym, subst, arith}
 use Rattle.std.proofs.lemmas.List.{length-set}
 use Rattle.squeezing.specs.Table.{Stands}
-use Rattle.squeezing.proofs.RaisedTotals.{suffix_more, suffix_set, suffix_last}
+use Rattle.squeezing.proofs.RaisedTotals.{suffix_more, suffix_set}
 use Rattle.squeezing.proofs.raising.upper_totals.Goals as goal
-
-pub loop-j-init : goal.loop-j-init
-loop-j-init g c =
-    let m = g.M.Measure in
-    let t = c.args.totals.now in
-    suffix_last m.algebra m.row m.span t.n t.m t.values.now c.args.hi.now c.args.room.now c.nothing.result c.requires.room (c.nothing.ensures.exact, c.nothing.ensures.small)
 
 pub loop-j-preserved : goal.loop-j-preserved
 loop-j-preserved g c =
@@ -20,15 +14,3 @@ loop-j-preserved g c =
     let rest = subst (λ x. Stands m.algebra m.row m.span t.n t.m t.values.now (drop (j + 1) hi) x) (sym c.index-room-j.is) (c.loop-j.invariant (j + 1) c.index-room-j.result (omega arith) (omega arith)) in
     let sum = suffix_more m.algebra g.met.M.Measure.lawful m.row m.span g.met.M.Measure.owned t.n t.m t.values.now t.few hi c.requires.upper j c.neighbours.result c.index-room-j.result c.plus.result (omega arith) c.neighbours.ensures rest (λ h. (c.plus.ensures.exact h, c.plus.ensures.small h)) in
     suffix_set m.algebra m.row m.span t.n t.m t.values.now hi room j c.plus.result (omega (arith, length-set c.args.room.now (length hi) c.nothing.result)) (λ k d h l. c.loop-j.invariant k d (omega arith) l) sum
-
-pub returns : goal.returns
-returns g c = record { many = omega (arith, length-set c.args.room.now (length c.args.hi.now) c.nothing.result); each = λ j d h. c.loop-j.invariant j d (omega arith) h }
-
-pub neighbours-requires : goal.neighbours-requires
-neighbours-requires g c =
-    let within : (c.loop-j.j - 1) < length c.args.hi.now = omega arith in
-    record {
-      some = (omega (arith, c.requires.upper.least (c.loop-j.j - 1) within), omega arith);
-      columns = omega arith;
-      within = omega (arith, c.requires.upper.most (c.loop-j.j - 1) within);
-    }

@@ -1,4 +1,4 @@
-use Rattle.std.proofs.Common.{◌+◌, ◌-◌, ◌<◌, length, arith}
+use Rattle.std.proofs.Common.{arith}
 use Rattle.squeezing.proofs.LoweredTotals.{back_more}
 use Rattle.squeezing.proofs.lowering.Back.advance.Goals as goal
 

@@ -1,4 +1,4 @@
-use Rattle.std.proofs.Common.{◌+◌, ◌<◌, length, arith}
+use Rattle.std.proofs.Common.{arith}
 use Rattle.squeezing.proofs.RaisedTotals.{front_more}
 use Rattle.squeezing.proofs.raising.Front.advance.Goals as goal
 
