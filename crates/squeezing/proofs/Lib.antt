@@ -6,3 +6,4 @@ pub mod RaisingPass
 pub mod LoweredTotals
 pub mod LoweringPass
 pub mod Squeezed
+pub mod Framing
