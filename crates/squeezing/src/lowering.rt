@@ -1,7 +1,6 @@
 ghost use Rattle.std.specs.Prelude.{◌≡◌, ℕ, ◌+◌, ◌-◌, ◌<◌, ◌≤◌, length, take, Some, slice_index};
 ghost use Rattle.sets.specs.Spaces.{lower as lowers};
-ghost use Rattle.squeezing.specs.Table.{Stands, Holds, entries};
-ghost use Rattle.squeezing.specs.Standing.{Back as BackIs, Higher, Places, Prefixes};
+ghost use Rattle.squeezing.specs.Standing.{Back as BackIs, Higher, HoldsIn, Places, Prefixes, StandsIn, entries_in};
 
 use crate::table::Totals;
 use measure::Measure;
@@ -11,7 +10,7 @@ pub(crate) fn lower_totals<M: Measure>(totals: &Totals<M>, lo: &[u16], room: &mu
     requires many { length lo.now ≡ totals.now.m }
     requires places { Places totals.now.n lo.now }
     requires room { length lo.now < length room.old }
-    ensures { Prefixes M.algebra M.Measure.row M.span totals.now.n totals.now.m totals.now.values.now lo.now room.new }
+    ensures { Prefixes M.algebra M.Measure.row M.span totals.now lo.now room.new }
 {
     room[0] = M::nothing();
     for (j, place) in lo.iter().enumerate() {
@@ -31,8 +30,8 @@ impl<M: Measure> Back<M> {
     fn advance(&mut self, totals: &Totals<M>, lo: &[u16], i: usize, v: u16)
         requires many { length lo.now ≡ totals.now.m }
         requires places { Places totals.now.n lo.now }
-        requires so_far { BackIs M.algebra M.Measure.row M.span totals.now.n totals.now.m totals.now.values.now lo.now i v self.old.end self.old.after }
-        ensures on { BackIs M.algebra M.Measure.row M.span totals.now.n totals.now.m totals.now.values.now lo.now i v self.new.end self.new.after }
+        requires so_far { BackIs M.algebra M.Measure.row M.span totals.now lo.now i v self.old.end self.old.after }
+        ensures on { BackIs M.algebra M.Measure.row M.span totals.now lo.now i v self.new.end self.new.after }
         ensures free { i + 1 < self.new.end → slice_index lo.now (self.new.end - 1) < v + (self.new.end - 1 - i) }
     {
         while self.end > i + 1 && lo[self.end - 1] as usize >= v as usize + (self.end - 1 - i) {
@@ -61,11 +60,11 @@ pub(crate) fn lower<M: Measure>(
     requires higher { Higher totals.now.n hi.now }
     requires within { i < length lo.now }
     requires same { length hi.now ≡ length lo.now }
-    requires so_far { BackIs M.algebra M.Measure.row M.span totals.now.n totals.now.m totals.now.values.now lo.now i (slice_index hi.now (i + 1) - 1) back.old.end back.old.after }
-    requires rest { Stands M.algebra M.Measure.row M.span totals.now.n totals.now.m totals.now.values.now (take i lo.now) before }
+    requires so_far { BackIs M.algebra M.Measure.row M.span totals.now lo.now i (slice_index hi.now (i + 1) - 1) back.old.end back.old.after }
+    requires rest { StandsIn M.algebra M.Measure.row M.span totals.now (take i lo.now) before }
     ensures found { (v : ℕ) → result ≡ Some v → (slice_index lo.now i ≤ v) × (v ≤ slice_index hi.now i) × (i + 1 < length hi.now → v ≤ slice_index hi.now (i + 1) - 1) }
-    ensures place { Holds M.algebra M.Measure.row M.span totals.now.n totals.now.m totals.now.values.now → result ≡ lowers M.algebra (entries M.Measure.row totals.now.n totals.now.values.now) (M.Measure.row high) lo.now hi.now (i + 1) }
-    ensures on { (v : ℕ) → result ≡ Some v → BackIs M.algebra M.Measure.row M.span totals.now.n totals.now.m totals.now.values.now lo.now i v back.new.end back.new.after }
+    ensures place { HoldsIn M.algebra M.Measure.row M.span totals.now → result ≡ lowers M.algebra (entries_in M.Measure.row totals.now) (M.Measure.row high) lo.now hi.now (i + 1) }
+    ensures on { (v : ℕ) → result ≡ Some v → BackIs M.algebra M.Measure.row M.span totals.now lo.now i v back.new.end back.new.after }
 {
     let mut greatest = hi[i];
     if i + 1 < hi.len() {

@@ -1,7 +1,6 @@
 ghost use Rattle.std.specs.Prelude.{◌≡◌, ◌<◌, length};
 ghost use Rattle.sets.specs.Spaces.{squeeze as squeezes, space, widths};
-ghost use Rattle.squeezing.specs.Table.{Holds, entries};
-ghost use Rattle.squeezing.specs.Standing.{Fair, Squeezes};
+ghost use Rattle.squeezing.specs.Standing.{Fair, HoldsIn, Squeezes, entries_in};
 
 use crate::lowering::{Back, lower, lower_totals};
 use crate::raising::{Front, raise, upper_totals};
@@ -20,7 +19,7 @@ pub(crate) fn squeeze<M: Measure>(
     requires many { length hi.old ≡ totals.now.m }
     requires fair { Fair totals.now.n lo.old hi.old }
     requires room { length hi.old < length room.old }
-    ensures { Squeezes (Holds M.algebra M.Measure.row M.span totals.now.n totals.now.m totals.now.values.now) totals.now.n lo.old hi.old lo.new hi.new (squeezes M.algebra (entries M.Measure.row totals.now.n totals.now.values.now) (M.Measure.row band.low) (M.Measure.row band.high) (widths lo.old hi.old) (space lo.old hi.old)) result }
+    ensures { Squeezes (HoldsIn M.algebra M.Measure.row M.span totals.now) totals.now.n lo.old hi.old lo.new hi.new (squeezes M.algebra (entries_in M.Measure.row totals.now) (M.Measure.row band.low) (M.Measure.row band.high) (widths lo.old hi.old) (space lo.old hi.old)) result }
 {
     let Band { low, high } = band;
     'passes: loop {

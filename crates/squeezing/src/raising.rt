@@ -1,7 +1,6 @@
 ghost use Rattle.std.specs.Prelude.{◌≡◌, ℕ, ◌+◌, ◌-◌, ◌<◌, ◌≤◌, length, drop, Some, slice_index};
 ghost use Rattle.sets.specs.Spaces.{raise as raises};
-ghost use Rattle.squeezing.specs.Table.{Stands, Holds, entries};
-ghost use Rattle.squeezing.specs.Standing.{Front as FrontIs, Lower, Suffixes, Places};
+ghost use Rattle.squeezing.specs.Standing.{Front as FrontIs, HoldsIn, Lower, Suffixes, StandsIn, Places, entries_in};
 
 use crate::table::Totals;
 use measure::Measure;
@@ -11,7 +10,7 @@ pub(crate) fn upper_totals<M: Measure>(totals: &Totals<M>, hi: &[u16], room: &mu
     requires many { length hi.now ≡ totals.now.m }
     requires upper { Places totals.now.n hi.now }
     requires room { length hi.now < length room.old }
-    ensures { Suffixes M.algebra M.Measure.row M.span totals.now.n totals.now.m totals.now.values.now hi.now room.new }
+    ensures { Suffixes M.algebra M.Measure.row M.span totals.now hi.now room.new }
 {
     room[hi.len()] = M::nothing();
     for j in (0..hi.len()).rev() {
@@ -32,8 +31,8 @@ impl<M: Measure> Front<M> {
         requires many { length hi.now ≡ totals.now.m }
         requires upper { Places totals.now.n hi.now }
         requires within { i < length hi.now }
-        requires so_far { FrontIs M.algebra M.Measure.row M.span totals.now.n totals.now.m totals.now.values.now hi.now i v self.old.start self.old.before }
-        ensures on { FrontIs M.algebra M.Measure.row M.span totals.now.n totals.now.m totals.now.values.now hi.now i v self.new.start self.new.before }
+        requires so_far { FrontIs M.algebra M.Measure.row M.span totals.now hi.now i v self.old.start self.old.before }
+        ensures on { FrontIs M.algebra M.Measure.row M.span totals.now hi.now i v self.new.start self.new.before }
         ensures free { self.new.start < i → v < slice_index hi.now self.new.start + (i - self.new.start) }
     {
         while self.start < i && hi[self.start] as usize + (i - self.start) <= v as usize {
@@ -62,11 +61,11 @@ pub(crate) fn raise<M: Measure>(
     requires lower { Lower totals.now.n lo.now }
     requires within { i < length hi.now }
     requires same { length lo.now ≡ length hi.now }
-    requires so_far { FrontIs M.algebra M.Measure.row M.span totals.now.n totals.now.m totals.now.values.now hi.now i (slice_index lo.now (i - 1) + 1) front.old.start front.old.before }
-    requires rest { Stands M.algebra M.Measure.row M.span totals.now.n totals.now.m totals.now.values.now (drop (i + 1) hi.now) after }
+    requires so_far { FrontIs M.algebra M.Measure.row M.span totals.now hi.now i (slice_index lo.now (i - 1) + 1) front.old.start front.old.before }
+    requires rest { StandsIn M.algebra M.Measure.row M.span totals.now (drop (i + 1) hi.now) after }
     ensures found { (v : ℕ) → result ≡ Some v → (slice_index lo.now i ≤ v) × (0 < i → slice_index lo.now (i - 1) < v) × (v ≤ slice_index hi.now i) }
-    ensures place { Holds M.algebra M.Measure.row M.span totals.now.n totals.now.m totals.now.values.now → result ≡ raises M.algebra (entries M.Measure.row totals.now.n totals.now.values.now) (M.Measure.row low) lo.now hi.now (i + 1) }
-    ensures on { (v : ℕ) → result ≡ Some v → FrontIs M.algebra M.Measure.row M.span totals.now.n totals.now.m totals.now.values.now hi.now i v front.new.start front.new.before }
+    ensures place { HoldsIn M.algebra M.Measure.row M.span totals.now → result ≡ raises M.algebra (entries_in M.Measure.row totals.now) (M.Measure.row low) lo.now hi.now (i + 1) }
+    ensures on { (v : ℕ) → result ≡ Some v → FrontIs M.algebra M.Measure.row M.span totals.now hi.now i v front.new.start front.new.before }
 {
     let mut least = lo[i];
     if i > 0 {

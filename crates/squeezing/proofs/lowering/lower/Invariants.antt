@@ -1,7 +1,7 @@
 use Rattle.std.proofs.Common.{◌≡◌, ◌+◌, ◌-◌, ◌<◌, ◌≤◌, length, get_or}
 use Rattle.sets.specs.Spaces.{greatest, stays}
 use Rattle.sets.specs.Spaces.{lower as lowers}
-use Rattle.squeezing.specs.Table.{Holds, entries}
+use Rattle.squeezing.specs.Standing.{HoldsIn, entries_in}
 use Rattle.squeezing.specs.Standing.{Back as BackIs}
 use Rattle.squeezing.proofs.lowering.lower.Given as goal
 
@@ -9,5 +9,5 @@ abbrev pub invariant-places : goal.invariant-places
 invariant-places g l =
     let m = g.M.Measure in
     let t = l.totals in
-    let xs = entries m.row t.n t.values.now in
-    (l.v + length l.lo ≤ t.n + l.i + 1) × (l.v ≤ get_or l.hi l.i 0) × (l.i + 1 < length l.hi → l.v ≤ get_or l.hi (l.i + 1) 0 - 1) × BackIs m.algebra m.row m.span t.n t.m t.values.now l.lo l.i l.v l.back.end l.back.after × (Holds m.algebra m.row m.span t.n t.m t.values.now → lowers m.algebra xs (m.row l.high) l.lo l.hi (l.i + 1) ≡ greatest (stays m.algebra xs (m.row l.high) l.lo (l.i + 1)) l.v (l.v + 1 - get_or l.lo l.i 0))
+    let xs = entries_in m.row t in
+    (l.v + length l.lo ≤ t.n + l.i + 1) × (l.v ≤ get_or l.hi l.i 0) × (l.i + 1 < length l.hi → l.v ≤ get_or l.hi (l.i + 1) 0 - 1) × BackIs m.algebra m.row m.span t l.lo l.i l.v l.back.end l.back.after × (HoldsIn m.algebra m.row m.span t → lowers m.algebra xs (m.row l.high) l.lo l.hi (l.i + 1) ≡ greatest (stays m.algebra xs (m.row l.high) l.lo (l.i + 1)) l.v (l.v + 1 - get_or l.lo l.i 0))

@@ -1,7 +1,7 @@
 use Rattle.std.proofs.Common.{◌≡◌, ◌+◌, ◌-◌, ◌<◌, ◌≤◌, length, get_or, sym, refl, ◌∙◌, arith}
 use Rattle.std.proofs.lemmas.List.{length-set}
 use Rattle.sets.specs.Spaces.{space, raise_from, lower_from}
-use Rattle.squeezing.specs.Table.{Holds, entries}
+use Rattle.squeezing.specs.Standing.{HoldsIn, entries_in}
 use Rattle.squeezing.proofs.LoweringPass.{Lowered, Sunk, lower_from_none, lower_from_some, higher-set, lowered-set, fell-set, back_next, back_none, sunk_all}
 use Rattle.squeezing.proofs.RaisingPass.{Swept, raise_from_none, raise_from_some, lower-set, settled-set, rose-set, front_next, swept_all}
 use Rattle.squeezing.proofs.Squeezed.{places-higher, swept_places, passed, still_same, moved_less, moved_other, pass_no_rise, pass_no_fall, squeeze_none, squeeze_still, squeeze_more}
@@ -13,7 +13,7 @@ pub raising-preserved : goal.raising-preserved
 raising-preserved g c =
     let m = g.M.Measure in
     let t = c.args.totals.now in
-    let xs = entries m.row t.n t.values.now in
+    let xs = entries_in m.row t in
     let lo = c.raising.lo in
     let hi = c.passes.hi in
     let i = c.raising.i in
@@ -26,16 +26,16 @@ raising-preserved g c =
       lower-set lo i v within t.n (omega (arith, found.0, inv.1.least i within)) (omega (arith, found.2, c.passes.invariant.0.highs.most i c.raising-test.true)) inv.1,
       settled-set lo i v within hi found.2 found.1 inv.2,
       rose-set lo i v within c.raising.rose c.passes.lo found.0 inv.3,
-      front_next m.algebra m.row m.span t.n t.m t.values.now hi lo i v c.raise.new.front.start c.raise.new.front.before within (c.in-Some.ensures.on v refl),
+      front_next m.algebra m.row m.span t hi lo i v c.raise.new.front.start c.raise.new.front.before within (c.in-Some.ensures.on v refl),
       λ held. inv.5 held ∙ raise_from_some m.algebra xs (m.row c.args.band.low) hi i (length hi - i) (length hi - (i + 1)) lo v many (sym (c.in-Some.ensures.place held)),
     )
 
 -- all positions were raised
-swept : (g : Over) (c : After-lower_totals g) → Swept (Holds g.M.Measure.algebra g.M.Measure.row g.M.Measure.span c.args.totals.now.n c.args.totals.now.m c.args.totals.now.values.now) c.args.totals.now.n c.passes.hi c.passes.lo c.raising.lo (raise_from g.M.Measure.algebra (entries g.M.Measure.row c.args.totals.now.n c.args.totals.now.values.now) (g.M.Measure.row c.args.band.low) c.passes.hi 1 (length c.passes.hi) c.passes.lo) c.raising.rose
+swept : (g : Over) (c : After-lower_totals g) → Swept (HoldsIn g.M.Measure.algebra g.M.Measure.row g.M.Measure.span c.args.totals.now) c.args.totals.now.n c.passes.hi c.passes.lo c.raising.lo (raise_from g.M.Measure.algebra (entries_in g.M.Measure.row c.args.totals.now) (g.M.Measure.row c.args.band.low) c.passes.hi 1 (length c.passes.hi) c.passes.lo) c.raising.rose
 swept g c =
     let m = g.M.Measure in
     let t = c.args.totals.now in
-    let xs = entries m.row t.n t.values.now in
+    let xs = entries_in m.row t in
     let inv = c.raising.invariant in
     let end : c.raising.i ≡ length c.passes.hi = omega (arith, c.raising-test.false) in
     swept_all m.algebra xs (m.row c.args.band.low) _ t.n c.passes.hi c.passes.lo c.raising.lo c.raising.i c.raising.rose end inv.0 inv.1 inv.2 inv.3 inv.5
@@ -51,7 +51,7 @@ lowering-init g c =
       places-higher t.n hi c.passes.invariant.0.highs,
       record { above = λ j k b. absurd (omega (arith, same)); rising = λ j k b. absurd (omega (arith, same)) },
       record { still = λ _. refl; fell = omega arith; down = λ j. omega arith },
-      (λ some. back_none m.algebra m.row m.span t.n t.m t.values.now lo _ c.nothing-in-passes.result some (c.nothing-in-passes.ensures.exact, c.nothing-in-passes.ensures.small)),
+      (λ some. back_none m.algebra m.row m.span t lo _ c.nothing-in-passes.result some (c.nothing-in-passes.ensures.exact, c.nothing-in-passes.ensures.small)),
       λ held. refl,
     )
 
@@ -59,7 +59,7 @@ pub lowering-preserved : goal.lowering-preserved
 lowering-preserved g c =
     let m = g.M.Measure in
     let t = c.args.totals.now in
-    let xs = entries m.row t.n t.values.now in
+    let xs = entries_in m.row t in
     let lo = c.raising.lo in
     let hi = c.lowering.hi in
     let i = c.lowering.i - 1 in
@@ -77,16 +77,16 @@ lowering-preserved g c =
       higher-set hi i v within t.n some (omega (arith, found.1, inv.1.most i within)) inv.1,
       lowered-set hi i v within lo found.0 past lowered_here,
       fell-set hi i v within c.lowering.fell c.passes.hi found.1 inv.3,
-      (λ more. back_next m.algebra m.row m.span t.n t.m t.values.now lo hi i v c.lower.new.back.end c.lower.new.back.after within some more (c.in-Some-lower.ensures.on v refl)),
+      (λ more. back_next m.algebra m.row m.span t lo hi i v c.lower.new.back.end c.lower.new.back.after within some more (c.in-Some-lower.ensures.on v refl)),
       λ held. inv.5 held ∙ lower_from_some m.algebra xs (m.row c.args.band.high) lo i c.lowering.i hi v (omega arith) (sym (c.in-Some-lower.ensures.place held)),
     )
 
 -- all positions were lowered
-sunk : (g : Over) (c : After-lowering g) → Sunk (Holds g.M.Measure.algebra g.M.Measure.row g.M.Measure.span c.args.totals.now.n c.args.totals.now.m c.args.totals.now.values.now) c.args.totals.now.n c.raising.lo c.passes.hi c.lowering.hi (lower_from g.M.Measure.algebra (entries g.M.Measure.row c.args.totals.now.n c.args.totals.now.values.now) (g.M.Measure.row c.args.band.high) c.raising.lo (length c.raising.lo) c.passes.hi) c.lowering.fell
+sunk : (g : Over) (c : After-lowering g) → Sunk (HoldsIn g.M.Measure.algebra g.M.Measure.row g.M.Measure.span c.args.totals.now) c.args.totals.now.n c.raising.lo c.passes.hi c.lowering.hi (lower_from g.M.Measure.algebra (entries_in g.M.Measure.row c.args.totals.now) (g.M.Measure.row c.args.band.high) c.raising.lo (length c.raising.lo) c.passes.hi) c.lowering.fell
 sunk g c =
     let m = g.M.Measure in
     let t = c.args.totals.now in
-    let xs = entries m.row t.n t.values.now in
+    let xs = entries_in m.row t in
     let inv = c.lowering.invariant in
     let end : c.lowering.i ≡ 0 = omega (arith, c.lowering-test.false) in
     sunk_all m.algebra xs (m.row c.args.band.high) _ t.n c.raising.lo c.passes.hi c.lowering.hi c.lowering.i c.lowering.fell end inv.0 inv.1 inv.2 inv.3 inv.5
@@ -95,7 +95,7 @@ pub returns-in_default : goal.returns-in_default
 returns-in_default g c =
     let m = g.M.Measure in
     let t = c.args.totals.now in
-    let xs = entries m.row t.n t.values.now in
+    let xs = entries_in m.row t in
     let low = m.row c.args.band.low in
     let high = m.row c.args.band.high in
     let hi = c.passes.hi in
@@ -108,7 +108,7 @@ pub returns-in_default-lower : goal.returns-in_default-lower
 returns-in_default-lower g c =
     let m = g.M.Measure in
     let t = c.args.totals.now in
-    let xs = entries m.row t.n t.values.now in
+    let xs = entries_in m.row t in
     let low = m.row c.args.band.low in
     let high = m.row c.args.band.high in
     let lo = c.raising.lo in
@@ -121,7 +121,7 @@ pub returns-then-not-rose-fell : goal.returns-then-not-rose-fell
 returns-then-not-rose-fell g c =
     let m = g.M.Measure in
     let t = c.args.totals.now in
-    let xs = entries m.row t.n t.values.now in
+    let xs = entries_in m.row t in
     let at = goal.at.returns-then-not-rose-fell g c in
     let p = passed m.algebra xs (m.row c.args.band.low) (m.row c.args.band.high) _ t.n c.passes.lo c.passes.hi c.raising.lo c.lowering.hi c.raising.rose c.lowering.fell (swept g at.After-lower_totals) (sunk g at.After-lowering) in
     let rose = c.raising.invariant.3 in
@@ -137,7 +137,7 @@ pub passes-smaller : goal.passes-smaller
 passes-smaller g c =
     let m = g.M.Measure in
     let t = c.args.totals.now in
-    let xs = entries m.row t.n t.values.now in
+    let xs = entries_in m.row t in
     let at = goal.at.passes-smaller g c in
     let p = passed m.algebra xs (m.row c.args.band.low) (m.row c.args.band.high) _ t.n c.passes.lo c.passes.hi c.raising.lo c.lowering.hi c.raising.rose c.lowering.fell (swept g at.After-lower_totals) (sunk g at.After-lowering) in
     moved_less t.n c.raising.rose c.lowering.fell c.passes.lo c.raising.lo c.passes.hi c.lowering.hi c.if-not-rose-fell.false c.raising.invariant.3 c.lowering.invariant.3 p.1
@@ -146,7 +146,7 @@ pub passes-preserved : goal.passes-preserved
 passes-preserved g c =
     let m = g.M.Measure in
     let t = c.args.totals.now in
-    let xs = entries m.row t.n t.values.now in
+    let xs = entries_in m.row t in
     let at = goal.at.passes-preserved g c in
     let p = passed m.algebra xs (m.row c.args.band.low) (m.row c.args.band.high) _ t.n c.passes.lo c.passes.hi c.raising.lo c.lowering.hi c.raising.rose c.lowering.fell (swept g at.After-lower_totals) (sunk g at.After-lowering) in
     let rose = c.raising.invariant.3 in
@@ -157,5 +157,5 @@ passes-preserved g c =
       c.lowering.invariant.0 ∙ c.raising.invariant.0 ∙ c.passes.invariant.1,
       (λ j. omega (arith, c.passes.invariant.2 j, rose.up j)),
       (λ j. omega (arith, c.passes.invariant.3 j, fell.down j)),
-      squeeze_more m.algebra xs (m.row c.args.band.low) (m.row c.args.band.high) (Holds m.algebra m.row m.span t.n t.m t.values.now) c.passes.invariant.4.0 _ (space c.passes.lo c.passes.hi) (space c.raising.lo c.lowering.hi) c.passes.invariant.4.1 less c.passes.invariant.4.2 p.0 other,
+      squeeze_more m.algebra xs (m.row c.args.band.low) (m.row c.args.band.high) (HoldsIn m.algebra m.row m.span t) c.passes.invariant.4.0 _ (space c.passes.lo c.passes.hi) (space c.raising.lo c.lowering.hi) c.passes.invariant.4.1 less c.passes.invariant.4.2 p.0 other,
     )

@@ -1,19 +1,19 @@
 use Rattle.std.proofs.Common.{◌≡◌, ◌+◌, get_or, sym, ap, ◌∙◌, arith}
 use Rattle.sets.specs.Spaces.{raised, reaches}
-use Rattle.squeezing.specs.Table.{Stands, Holds, entries}
+use Rattle.squeezing.specs.Standing.{StandsIn, HoldsIn, entries_in}
 use Rattle.squeezing.proofs.RaisedTotals.{raised_stands, least_to_here, least_to_next, least_to_none}
 use Rattle.squeezing.proofs.raising.raise.Given.{Over}
 use Rattle.squeezing.proofs.raising.raise.Goals as goal
 use Rattle.squeezing.proofs.raising.raise.Goals.{After-not_above}
 
 -- what was found of the place that is tried is what the definition asks of it
-tried : (g : Over) (c : After-not_above g) → Holds g.M.Measure.algebra g.M.Measure.row g.M.Measure.span c.args.totals.now.n c.args.totals.now.m c.args.totals.now.values.now → reaches g.M.Measure.algebra (entries g.M.Measure.row c.args.totals.now.n c.args.totals.now.values.now) (g.M.Measure.row c.args.low) c.args.hi.now (c.args.i + 1) c.places.v ≡ c.not_above.result
+tried : (g : Over) (c : After-not_above g) → HoldsIn g.M.Measure.algebra g.M.Measure.row g.M.Measure.span c.args.totals.now → reaches g.M.Measure.algebra (entries_in g.M.Measure.row c.args.totals.now) (g.M.Measure.row c.args.low) c.args.hi.now (c.args.i + 1) c.places.v ≡ c.not_above.result
 tried g c held =
     let m = g.M.Measure in
     let t = c.args.totals.now in
     let front = c.advance.new.self in
-    let st : Stands m.algebra m.row m.span t.n t.m t.values.now (raised c.args.hi.now (c.args.i + 1) c.places.v) c.plus-sum.result =
-    raised_stands m.algebra g.met.M.Measure.lawful m.row m.span g.met.M.Measure.owned t.n t.m t.values.now t.few c.args.hi.now c.requires.upper c.args.i front.start c.places.v front.before c.neighbours-run.result c.args.after c.plus.result c.plus-sum.result c.requires.within c.places.invariant.0 (omega arith) c.advance.ensures.free c.advance.ensures.on c.neighbours-run.ensures c.requires.rest (λ h. (c.plus.ensures.exact h, c.plus.ensures.small h)) (λ h. (c.plus-sum.ensures.exact h, c.plus-sum.ensures.small h)) in
+    let st : StandsIn m.algebra m.row m.span t (raised c.args.hi.now (c.args.i + 1) c.places.v) c.plus-sum.result =
+    raised_stands m.algebra g.met.M.Measure.lawful m.row m.span g.met.M.Measure.owned t c.args.hi.now c.requires.upper c.args.i front.start c.places.v front.before c.neighbours-run.result c.args.after c.plus.result c.plus-sum.result c.requires.within c.places.invariant.0 (omega arith) c.advance.ensures.free c.advance.ensures.on c.neighbours-run.ensures c.requires.rest (λ h. (c.plus.ensures.exact h, c.plus.ensures.small h)) (λ h. (c.plus-sum.ensures.exact h, c.plus-sum.ensures.small h)) in
     sym (ap (m.algebra.not_above (m.row c.args.low)) (st.stood held).row_is) ∙ sym c.not_above.ensures
 
 pub returns-then-not_above-clause-place : goal.returns-then-not_above-clause-place

@@ -1,7 +1,7 @@
 use Rattle.std.proofs.Common.{◌≡◌, ◌+◌, ◌-◌, ◌<◌, ◌≤◌, get_or}
 use Rattle.sets.specs.Spaces.{least, reaches}
 use Rattle.sets.specs.Spaces.{raise as raises}
-use Rattle.squeezing.specs.Table.{Holds, entries}
+use Rattle.squeezing.specs.Standing.{HoldsIn, entries_in}
 use Rattle.squeezing.specs.Standing.{Front as FrontIs}
 use Rattle.squeezing.proofs.raising.raise.Given as goal
 
@@ -9,5 +9,5 @@ abbrev pub invariant-places : goal.invariant-places
 invariant-places g l =
     let m = g.M.Measure in
     let t = l.totals in
-    let xs = entries m.row t.n t.values.now in
-    (l.i < l.v) × (get_or l.lo l.i 0 ≤ l.v) × (0 < l.i → get_or l.lo (l.i - 1) 0 < l.v) × FrontIs m.algebra m.row m.span t.n t.m t.values.now l.hi l.i l.v l.front.start l.front.before × (Holds m.algebra m.row m.span t.n t.m t.values.now → raises m.algebra xs (m.row l.low) l.lo l.hi (l.i + 1) ≡ least (reaches m.algebra xs (m.row l.low) l.hi (l.i + 1)) l.v (get_or l.hi l.i 0 + 1 - l.v))
+    let xs = entries_in m.row t in
+    (l.i < l.v) × (get_or l.lo l.i 0 ≤ l.v) × (0 < l.i → get_or l.lo (l.i - 1) 0 < l.v) × FrontIs m.algebra m.row m.span t l.hi l.i l.v l.front.start l.front.before × (HoldsIn m.algebra m.row m.span t → raises m.algebra xs (m.row l.low) l.lo l.hi (l.i + 1) ≡ least (reaches m.algebra xs (m.row l.low) l.hi (l.i + 1)) l.v (get_or l.hi l.i 0 + 1 - l.v))

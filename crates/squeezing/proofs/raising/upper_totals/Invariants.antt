@@ -1,9 +1,9 @@
 use Rattle.std.proofs.Common.{ℕ, ◌≤◌, length, get_or, drop}
-use Rattle.squeezing.specs.Table.{Stands}
+use Rattle.squeezing.specs.Standing.{StandsIn}
 use Rattle.squeezing.proofs.raising.upper_totals.Given as goal
 
 abbrev pub invariant-loop-j : goal.invariant-loop-j
 invariant-loop-j g l =
     let m = g.M.Measure in
     let t = l.totals in
-    (k : ℕ) (d : g.row.M.Denot) → l.j ≤ k → k ≤ length l.hi → Stands m.algebra m.row m.span t.n t.m t.values.now (drop k l.hi) (get_or l.room k d)
+    (k : ℕ) (d : g.row.M.Denot) → l.j ≤ k → k ≤ length l.hi → StandsIn m.algebra m.row m.span t (drop k l.hi) (get_or l.room k d)

@@ -6,7 +6,7 @@ abbrev pub invariant-loop-self : goal.invariant-loop-self
 invariant-loop-self g l =
     let m = g.M.Measure in
     let t = l.totals in
-    BackIs m.algebra m.row m.span t.n t.m t.values.now l.lo l.i l.v l.self.end l.self.after
+    BackIs m.algebra m.row m.span t l.lo l.i l.v l.self.end l.self.after
 
 abbrev pub decreases-loop-self : goal.decreases-loop-self
 decreases-loop-self g l = l.self.end - l.i
