@@ -3,12 +3,13 @@ use Rattle.std.proofs.Common.{◌≡◌, ℕ, zero, suc, ◌+◌, ◌-◌, ◌<�
 use Rattle.std.specs.List.{range_with_len}
 use Rattle.std.proofs.lemmas.List.FromFn.{length-range_with_len}
 use Rattle.std.proofs.lemmas.List.{get_or-set_same, get_or-set_other, length-take-le}
+use Rattle.std.proofs.lemmas.List.Elements.{All-append, All-take, All-drop}
 use Rattle.std.proofs.lemmas.Bool.{cond-true, cond-false, cases_eq}
 use Rattle.measure.specs.Algebra.{Algebra, Laws, Row}
 use Rattle.sets.specs.Spaces.{greatest, lowered}
 use Rattle.squeezing.specs.declared.table.Totals.{Totals}
 use Rattle.squeezing.specs.Standing.{Back, Places, StandsIn}
-use Rattle.squeezing.proofs.Sums.{Inside, join, inside-append, inside_take, inside-drop, inside_counting, inside-places, places_few}
+use Rattle.squeezing.proofs.Sums.{IsPlace, Inside, join, inside_counting, inside-places, places_few}
 use Rattle.squeezing.proofs.Splits.{rises, lowered_split}
 use Rattle.squeezing.proofs.RaisedTotals.{Adds, suffix_more}
 
@@ -62,13 +63,13 @@ module _ {M : Type 0} (a : Algebra) (laws : Laws a) (row : M → Row) (span : M 
       omega (arith, free (omega arith), rises t.n lo places j (e - 1 - j) (omega arith), ap (λ p. get_or lo p 0) q) in
       let split = lowered_split lo i v e past end b.held before in
       let ins_run : Inside t.n run = inside_counting t.n v (e - i) (omega (arith, places.least i (omega arith))) (omega arith) in
-      let ins_front = inside_take t.n i lo ins in
+      let ins_front = All-take (IsPlace t.n) i lo ins in
       let n_front = length-take-le i lo (omega arith) in
       let n_run = length-range_with_len v (e - i) in
       let few = places_few t.n lo places in
       let front = join a laws row span own t.n t.m t.values.now (take i lo) run x y xy ins_front ins_run (omega (arith, n_front, n_run, few, t.few)) sx sy sum1 in
       rw split (join a laws row span own t.n t.m t.values.now (take i lo ++ run) (drop e lo) xy z r
-      (inside-append t.n (take i lo) run ins_front ins_run)
-      (inside-drop t.n e lo ins)
+      (All-append (IsPlace t.n) (take i lo) run ins_front ins_run)
+      (All-drop (IsPlace t.n) e lo ins)
       (omega (arith, length-append (take i lo) run, n_front, n_run, length-drop e lo, few, t.few))
       front b.stands sum2)

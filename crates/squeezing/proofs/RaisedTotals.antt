@@ -3,12 +3,13 @@ use Rattle.std.proofs.Common.{◌≡◌, ℕ, zero, suc, ◌+◌, ◌-◌, ◌<�
 use Rattle.std.specs.List.{range_with_len}
 use Rattle.std.proofs.lemmas.List.FromFn.{length-range_with_len}
 use Rattle.std.proofs.lemmas.List.{get_or-set_same, get_or-set_other, take_more, drop_more, length-take-le}
+use Rattle.std.proofs.lemmas.List.Elements.{All-append, All-take, All-drop}
 use Rattle.std.proofs.lemmas.Bool.{cond-true, cond-false, cases_eq}
 use Rattle.measure.specs.Algebra.{Algebra, Laws, Row}
 use Rattle.sets.specs.Spaces.{least, raised}
 use Rattle.squeezing.specs.declared.table.Totals.{Totals}
 use Rattle.squeezing.specs.Standing.{Front, Places, StandsIn}
-use Rattle.squeezing.proofs.Sums.{Inside, join, inside-append, inside_take, inside-drop, inside_counting, inside-places, places_few}
+use Rattle.squeezing.proofs.Sums.{IsPlace, Inside, join, inside_counting, inside-places, places_few}
 use Rattle.squeezing.proofs.Splits.{rises, raised_split}
 
 pub least_here : (f : ℕ → Bool) (v n : ℕ) → 0 < n → f v ≡ true → least f v n ≡ Some v
@@ -50,7 +51,7 @@ module _ {M : Type 0} (a : Algebra) (laws : Laws a) (row : M → Row) (span : M 
   prefix_more s x y r l sx sy sum =
       let more : take (s + 1) hi ≡ take s hi ++ range_with_len (get_or hi s 0) 1 = take_more hi s 0 l in
       rw more (join a laws row span own t.n t.m t.values.now (take s hi) (range_with_len (get_or hi s 0) 1) x y r
-      (inside_take t.n s hi (inside-places t.n hi upper))
+      (All-take (IsPlace t.n) s hi (inside-places t.n hi upper))
       (inside_counting t.n (get_or hi s 0) 1 (omega (arith, upper.least s l)) (omega (arith, upper.most s l)))
       (omega (arith, places_few t.n hi upper, length-take-le s hi (omega arith), t.few))
       sx sy sum)
@@ -69,7 +70,7 @@ module _ {M : Type 0} (a : Algebra) (laws : Laws a) (row : M → Row) (span : M 
       let more : drop j hi ≡ range_with_len (get_or hi j 0) 1 ++ drop (j + 1) hi = drop_more hi j 0 l in
       rw more (join a laws row span own t.n t.m t.values.now (range_with_len (get_or hi j 0) 1) (drop (j + 1) hi) x y r
       (inside_counting t.n (get_or hi j 0) 1 (omega (arith, upper.least j l)) (omega (arith, upper.most j l)))
-      (inside-drop t.n (j + 1) hi (inside-places t.n hi upper))
+      (All-drop (IsPlace t.n) (j + 1) hi (inside-places t.n hi upper))
       (omega (arith, places_few t.n hi upper, length-drop (j + 1) hi, t.few))
       sx sy sum)
 
@@ -86,13 +87,13 @@ module _ {M : Type 0} (a : Algebra) (laws : Laws a) (row : M → Row) (span : M 
       omega (arith, free (omega arith), rises t.n hi upper s (j - s) (omega arith), ap (λ p. get_or hi p 0) e) in
       let split = raised_split hi i v s l start enough below past in
       let ins_run : Inside t.n run = inside_counting t.n (v - (i - s)) (i - s + 1) (omega arith) (omega (arith, upper.most i l)) in
-      let ins_front = inside_take t.n s hi ups in
+      let ins_front = All-take (IsPlace t.n) s hi ups in
       let n_front = length-take-le s hi (omega arith) in
       let n_run = length-range_with_len (v - (i - s)) (i - s + 1) in
       let few = places_few t.n hi upper in
       let front = join a laws row span own t.n t.m t.values.now (take s hi) run x y xy ins_front ins_run (omega (arith, n_front, n_run, few, t.few)) sx sy sum1 in
       rw split (join a laws row span own t.n t.m t.values.now (take s hi ++ run) (drop (i + 1) hi) xy z r
-      (inside-append t.n (take s hi) run ins_front ins_run)
-      (inside-drop t.n (i + 1) hi ups)
+      (All-append (IsPlace t.n) (take s hi) run ins_front ins_run)
+      (All-drop (IsPlace t.n) (i + 1) hi ups)
       (omega (arith, length-append (take s hi) run, n_front, n_run, length-drop (i + 1) hi, few, t.few))
       front sz sum2)
