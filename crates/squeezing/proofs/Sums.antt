@@ -1,5 +1,5 @@
 -- What is added up stands for what was put together.
-use Rattle.std.proofs.Common.{◌≡◌, ℕ, zero, suc, ◌+◌, ◌-◌, ◌<◌, ◌≤◌, true, List, [], ◌∷◌, ◌++◌, map, length, get_or, take, drop, sym, ap, ◌∙◌, arith, length-append, length-take}
+use Rattle.std.proofs.Common.{◌≡◌, ℕ, zero, suc, ◌+◌, ◌-◌, ◌<◌, ◌≤◌, true, List, [], ◌∷◌, ◌++◌, map, length, get_or, take, sym, ap, ◌∙◌, arith, length-append, length-take}
 use Rattle.std.specs.List.{All, range_with_len}
 use Rattle.std.proofs.lemmas.List.Elements.{All-from_get_or, All-head, All-tail}
 use Rattle.std.proofs.lemmas.List.FromFn.{length-range_with_len, get_or-range_with_len}
@@ -8,6 +8,7 @@ use Rattle.measure.specs.Algebra.{Algebra, Laws, Row}
 use Rattle.sets.specs.Sets.{total, at_place}
 use Rattle.squeezing.specs.Table.{Stood, Stands, entries}
 use Rattle.squeezing.specs.Standing.{Places}
+use Rattle.squeezing.specs.declared.fixed.Fixed.{Fixed}
 
 -- a place is one of 1 to n
 abbrev pub IsPlace : ℕ → ℕ → Type 0
@@ -64,6 +65,14 @@ inside_counting n p k h l = All-from_get_or (IsPlace n) (range_with_len p k) 0 (
 
 pub inside-places : (n : ℕ) (hi : List ℕ) → Places n hi → Inside n hi
 inside-places n hi u = All-from_get_or (IsPlace n) hi 0 (λ j l. (omega (arith, u.least j l), u.most j l))
+
+-- what a value of fixed places keeps
+pub places_of : {M : Type 0} (f : Fixed M) → Places f.totals.now.n f.places.now
+places_of f = record {
+  least = λ j h. f.roomy j (omega (arith, f.many));
+  most = λ j h. f.upto j (omega (arith, f.many));
+  rising = λ j h. f.rising j (omega (arith, f.many));
+}
 
 pub places_few : (n : ℕ) (hi : List ℕ) → Places n hi → length hi ≤ n
 places_few n [] u = omega arith

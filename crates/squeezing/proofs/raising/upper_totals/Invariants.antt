@@ -5,5 +5,5 @@ use Rattle.squeezing.proofs.raising.upper_totals.Given as goal
 abbrev pub invariant-loop-j : goal.invariant-loop-j
 invariant-loop-j g l =
     let m = g.M.Measure in
-    let t = l.totals in
-    (k : ℕ) (d : g.row.M.Denot) → l.j ≤ k → k ≤ length l.hi → StandsIn m.algebra m.row m.span t (drop k l.hi) (get_or l.room k d)
+    let t = l.hi.totals.now in
+    (k : ℕ) (d : g.row.M.Denot) → l.j ≤ k → k ≤ length l.hi.places.now → StandsIn m.algebra m.row m.span t (drop k l.hi.places.now) (get_or l.room k d)
