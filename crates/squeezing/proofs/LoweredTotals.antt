@@ -9,9 +9,9 @@ use Rattle.measure.specs.Algebra.{Algebra, Laws, Row}
 use Rattle.sets.specs.Spaces.{greatest, lowered}
 use Rattle.squeezing.specs.declared.table.Totals.{Totals}
 use Rattle.squeezing.specs.Standing.{Back, Places, StandsIn}
-use Rattle.squeezing.proofs.Sums.{IsPlace, Inside, join, inside_counting, inside-places, places_few}
+use Rattle.squeezing.proofs.Sums.{Adds, IsPlace, Inside, join, inside_counting, inside-places, places_few}
 use Rattle.squeezing.proofs.Splits.{rises, lowered_split}
-use Rattle.squeezing.proofs.RaisedTotals.{Adds, suffix_more}
+use Rattle.squeezing.proofs.RaisedTotals.{suffix_more}
 
 greatest_here : (f : ℕ → Bool) (v n : ℕ) → 0 < n → f v ≡ true → greatest f v n ≡ Some v
 greatest_here f v zero h e = absurd (omega arith)

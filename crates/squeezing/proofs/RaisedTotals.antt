@@ -9,7 +9,7 @@ use Rattle.measure.specs.Algebra.{Algebra, Laws, Row}
 use Rattle.sets.specs.Spaces.{least, raised}
 use Rattle.squeezing.specs.declared.table.Totals.{Totals}
 use Rattle.squeezing.specs.Standing.{Front, Places, StandsIn}
-use Rattle.squeezing.proofs.Sums.{IsPlace, Inside, join, inside_counting, inside-places, places_few}
+use Rattle.squeezing.proofs.Sums.{Adds, IsPlace, Inside, join, inside_counting, inside-places, places_few}
 use Rattle.squeezing.proofs.Splits.{rises, raised_split}
 
 pub least_here : (f : ℕ → Bool) (v n : ℕ) → 0 < n → f v ≡ true → least f v n ≡ Some v
@@ -31,10 +31,6 @@ pub least_to_none : (f : ℕ → Bool) (v top : ℕ) → top ≤ v → v ≤ top
 least_to_none f v top l h e =
     let last : top + 1 - (v + 1) ≡ 0 = omega arith in
     sym (least_to_next f v top h e ∙ ap (least f (v + 1)) last)
-
--- `plus` gave r
-abbrev pub Adds : {M : Type 0} → Algebra → (M → Row) → (M → ℕ) → M → M → M → Type 0
-Adds a row span x y r = span x + span y ≤ 240 → (row r ≡ a.plus (row x) (row y)) × (span r ≤ span x + span y)
 
 -- the totals from an index on, as they are written down from the last
 module _ {M : Type 0} (a : Algebra) (row : M → Row) (span : M → ℕ) (t : Totals M) (hi : List ℕ) (totals : List M) where

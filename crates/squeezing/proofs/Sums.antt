@@ -18,6 +18,10 @@ IsPlace n p = (1 ≤ p) × (p ≤ n)
 abbrev pub Inside : ℕ → List ℕ → Type 0
 Inside n ps = All (IsPlace n) ps
 
+-- `plus` gave r
+abbrev pub Adds : {M : Type 0} → Algebra → (M → Row) → (M → ℕ) → M → M → M → Type 0
+Adds a row span x y r = (span x + span y ≤ 240 → row r ≡ a.plus (row x) (row y)) × (span x + span y ≤ 240 → span r ≤ span x + span y)
+
 pub stands_none : {M : Type 0} (a : Algebra) (row : M → Row) (span : M → ℕ) (n m : ℕ) (table : List M) (r : M) → (row r ≡ a.nothing) × (span r ≡ 0) → Stands a row span n m table [] r
 stands_none a row span n m table r e = record { stood = λ held. record { row_is = e.0; span_le = omega (arith, e.1) } }
 
@@ -35,13 +39,12 @@ module _ (a : Algebra) (laws : Laws a) (xs : List Row) (own : (p : ℕ) → 1 �
       ∙ sym (laws.plus_assoc _ _ _ (own p here.0 here.1) (total-own ps rest) (total-own qs j))
 
   -- a sum that `plus` gives stands for both sets of places together
-  pub stands_plus : {M : Type 0} (row : M → Row) (span : M → ℕ) (ps qs : List ℕ) (x y r : M) → Inside (length xs) ps → Inside (length xs) qs → length ps + length qs ≤ 240 → Stood a row span xs ps x → Stood a row span xs qs y → (span x + span y ≤ 240 → (row r ≡ a.plus (row x) (row y)) × (span r ≤ span x + span y)) → Stood a row span xs (ps ++ qs) r
+  pub stands_plus : {M : Type 0} (row : M → Row) (span : M → ℕ) (ps qs : List ℕ) (x y r : M) → Inside (length xs) ps → Inside (length xs) qs → length ps + length qs ≤ 240 → Stood a row span xs ps x → Stood a row span xs qs y → Adds a row span x y r → Stood a row span xs (ps ++ qs) r
   stands_plus row span ps qs x y r i j few s t sum =
       let small : span x + span y ≤ 240 = omega (arith, s.span_le, t.span_le) in
-      let got = sum small in
       record {
-        row_is = got.0 ∙ ap (λ z. a.plus z (row y)) s.row_is ∙ ap (a.plus (total a xs ps)) t.row_is ∙ sym (total-append ps qs i j);
-        span_le = omega (arith, got.1, s.span_le, t.span_le, length-append ps qs);
+        row_is = sum.0 small ∙ ap (λ z. a.plus z (row y)) s.row_is ∙ ap (a.plus (total a xs ps)) t.row_is ∙ sym (total-append ps qs i j);
+        span_le = omega (arith, sum.1 small, s.span_le, t.span_le, length-append ps qs);
       }
 
 -- the rows of a table are the algebra's own
@@ -80,7 +83,7 @@ places_few n (h ∷ hi) u = omega (arith, u.least (length hi) (omega arith), u.m
 
 -- what the code adds up: where the table holds, the total of what was put together
 module _ {M : Type 0} (a : Algebra) (laws : Laws a) (row : M → Row) (span : M → ℕ) (own : (x : M) → a.own (row x) ≡ true) (n m : ℕ) (table : List M) where
-  pub join : (ps qs : List ℕ) (x y r : M) → Inside n ps → Inside n qs → length ps + length qs ≤ 240 → Stands a row span n m table ps x → Stands a row span n m table qs y → (span x + span y ≤ 240 → (row r ≡ a.plus (row x) (row y)) × (span r ≤ span x + span y)) → Stands a row span n m table (ps ++ qs) r
+  pub join : (ps qs : List ℕ) (x y r : M) → Inside n ps → Inside n qs → length ps + length qs ≤ 240 → Stands a row span n m table ps x → Stands a row span n m table qs y → Adds a row span x y r → Stands a row span n m table (ps ++ qs) r
   join ps qs x y r i j few s t sum = record {
     stood = λ held.
         let count_is : length (entries row n table) ≡ n = entries-length row n table held.enough in

@@ -14,7 +14,7 @@ tried g c held =
     let t = c.args.lo.now.totals.now in
     let back = c.advance.new.self in
     let st : StandsIn m.algebra m.row m.span t (lowered c.args.lo.now.places.now (c.args.i + 1) c.places.v) c.plus-sum.result =
-    lowered_stands m.algebra g.met.M.Measure.lawful m.row m.span g.met.M.Measure.owned t c.args.lo.now.places.now (places_of c.args.lo.now) c.args.i back.end c.places.v c.args.before c.neighbours-run.result back.after c.plus.result c.plus-sum.result (omega arith) c.places.invariant.0 c.advance.ensures.free c.requires.rest c.neighbours-run.ensures c.advance.ensures.on (λ h. (c.plus.ensures.exact h, c.plus.ensures.small h)) (λ h. (c.plus-sum.ensures.exact h, c.plus-sum.ensures.small h)) in
+    lowered_stands m.algebra g.met.M.Measure.lawful m.row m.span g.met.M.Measure.owned t c.args.lo.now.places.now (places_of c.args.lo.now) c.args.i back.end c.places.v c.args.before c.neighbours-run.result back.after c.plus.result c.plus-sum.result (omega arith) c.places.invariant.0 c.advance.ensures.free c.requires.rest c.neighbours-run.ensures c.advance.ensures.on (c.plus.ensures.exact, c.plus.ensures.small) (c.plus-sum.ensures.exact, c.plus-sum.ensures.small) in
     sym (ap (λ t. m.algebra.not_above t (m.row c.args.high)) (st.stood held).row_is) ∙ sym c.not_above.ensures
 
 pub returns-then-not_above-clause-place : goal.returns-then-not_above-clause-place

@@ -14,7 +14,7 @@ tried g c held =
     let t = c.args.hi.now.totals.now in
     let front = c.advance.new.self in
     let st : StandsIn m.algebra m.row m.span t (raised c.args.hi.now.places.now (c.args.i + 1) c.places.v) c.plus-sum.result =
-    raised_stands m.algebra g.met.M.Measure.lawful m.row m.span g.met.M.Measure.owned t c.args.hi.now.places.now (places_of c.args.hi.now) c.args.i front.start c.places.v front.before c.neighbours-run.result c.args.after c.plus.result c.plus-sum.result c.requires.within c.places.invariant.0 (omega arith) c.advance.ensures.free c.advance.ensures.on c.neighbours-run.ensures c.requires.rest (λ h. (c.plus.ensures.exact h, c.plus.ensures.small h)) (λ h. (c.plus-sum.ensures.exact h, c.plus-sum.ensures.small h)) in
+    raised_stands m.algebra g.met.M.Measure.lawful m.row m.span g.met.M.Measure.owned t c.args.hi.now.places.now (places_of c.args.hi.now) c.args.i front.start c.places.v front.before c.neighbours-run.result c.args.after c.plus.result c.plus-sum.result c.requires.within c.places.invariant.0 (omega arith) c.advance.ensures.free c.advance.ensures.on c.neighbours-run.ensures c.requires.rest (c.plus.ensures.exact, c.plus.ensures.small) (c.plus-sum.ensures.exact, c.plus-sum.ensures.small) in
     sym (ap (m.algebra.not_above (m.row c.args.low)) (st.stood held).row_is) ∙ sym c.not_above.ensures
 
 pub returns-then-not_above-clause-place : goal.returns-then-not_above-clause-place
