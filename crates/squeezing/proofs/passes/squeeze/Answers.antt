@@ -65,7 +65,7 @@ lowering-preserved g c =
     let i = c.lowering.i - 1 in
     let v = c.in-Some-lower.v in
     let inv = c.lowering.invariant in
-    let places = swept_places _ t.n c.passes.hi c.passes.lo lo _ c.raising.rose (swept g (goal.at.lowering-preserved g c).After-lower_totals) in
+    let places = swept_places _ _ _ _ _ _ _ (swept g (goal.at.lowering-preserved g c).After-lower_totals) in
     let within : i < length hi = omega (arith, inv.0) in
     let found = c.in-Some-lower.ensures.found v refl in
     let some : 1 ≤ v = omega (arith, found.0, places.least i (omega arith)) in
@@ -123,10 +123,10 @@ returns-then-not-rose-fell g c =
     let t = c.args.totals.now in
     let xs = entries_in m.row t in
     let at = goal.at.returns-then-not-rose-fell g c in
-    let p = passed m.algebra xs (m.row c.args.band.low) (m.row c.args.band.high) _ t.n c.passes.lo c.passes.hi c.raising.lo c.lowering.hi c.raising.rose c.lowering.fell (swept g at.After-lower_totals) (sunk g at.After-lowering) in
+    let p = passed m.algebra xs (m.row c.args.band.low) (m.row c.args.band.high) _ _ _ _ _ _ _ _ (swept g at.After-lower_totals) (sunk g at.After-lowering) in
     let rose = c.raising.invariant.3 in
     let fell = c.lowering.invariant.3 in
-    let same = still_same c.raising.rose c.lowering.fell c.passes.lo c.raising.lo c.passes.hi c.lowering.hi c.if-not-rose-fell.true rose fell in (
+    let same = still_same _ _ _ _ _ _ c.if-not-rose-fell.true rose fell in (
       (λ held. c.passes.invariant.4.2 held ∙ squeeze_still m.algebra xs (m.row c.args.band.low) (m.row c.args.band.high) c.passes.invariant.4.0 (space c.passes.lo c.passes.hi) (space c.raising.lo c.lowering.hi) (p.0 held) same),
       p.1,
       (λ j. omega (arith, c.passes.invariant.2 j, rose.up j)),
@@ -139,8 +139,8 @@ passes-smaller g c =
     let t = c.args.totals.now in
     let xs = entries_in m.row t in
     let at = goal.at.passes-smaller g c in
-    let p = passed m.algebra xs (m.row c.args.band.low) (m.row c.args.band.high) _ t.n c.passes.lo c.passes.hi c.raising.lo c.lowering.hi c.raising.rose c.lowering.fell (swept g at.After-lower_totals) (sunk g at.After-lowering) in
-    moved_less t.n c.raising.rose c.lowering.fell c.passes.lo c.raising.lo c.passes.hi c.lowering.hi c.if-not-rose-fell.false c.raising.invariant.3 c.lowering.invariant.3 p.1
+    let p = passed m.algebra xs (m.row c.args.band.low) (m.row c.args.band.high) _ _ _ _ _ _ _ _ (swept g at.After-lower_totals) (sunk g at.After-lowering) in
+    moved_less _ _ _ _ _ _ _ c.if-not-rose-fell.false c.raising.invariant.3 c.lowering.invariant.3 p.1
 
 pub passes-preserved : goal.passes-preserved
 passes-preserved g c =
@@ -148,11 +148,11 @@ passes-preserved g c =
     let t = c.args.totals.now in
     let xs = entries_in m.row t in
     let at = goal.at.passes-preserved g c in
-    let p = passed m.algebra xs (m.row c.args.band.low) (m.row c.args.band.high) _ t.n c.passes.lo c.passes.hi c.raising.lo c.lowering.hi c.raising.rose c.lowering.fell (swept g at.After-lower_totals) (sunk g at.After-lowering) in
+    let p = passed m.algebra xs (m.row c.args.band.low) (m.row c.args.band.high) _ _ _ _ _ _ _ _ (swept g at.After-lower_totals) (sunk g at.After-lowering) in
     let rose = c.raising.invariant.3 in
     let fell = c.lowering.invariant.3 in
-    let less = moved_less t.n c.raising.rose c.lowering.fell c.passes.lo c.raising.lo c.passes.hi c.lowering.hi c.if-not-rose-fell.false rose fell p.1 in
-    let other = moved_other t.n c.raising.rose c.lowering.fell c.passes.lo c.raising.lo c.passes.hi c.lowering.hi c.if-not-rose-fell.false rose fell in (
+    let less = moved_less _ _ _ _ _ _ _ c.if-not-rose-fell.false rose fell p.1 in
+    let other = moved_other _ _ _ _ _ _ c.if-not-rose-fell.false rose fell in (
       p.1,
       c.lowering.invariant.0 ∙ c.raising.invariant.0 ∙ c.passes.invariant.1,
       (λ j. omega (arith, c.passes.invariant.2 j, rose.up j)),
