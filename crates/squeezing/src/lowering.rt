@@ -16,8 +16,6 @@ pub(crate) fn lower_totals<M: Measure>(lo: &Fixed<M>, room: &mut [M])
     }
 }
 
-// Kept: lowering mirrors raising and is no twin of it: sums grow at the other end, and each bound and order is turned round.
-
 // The lower places that hold a position from below: those from the index `end` on, and their total.
 #[derive(Clone, Copy)]
 pub struct Back<M> {
@@ -45,6 +43,7 @@ impl<M: Measure> Back<M> {
 // `high`. That total has three parts: the lower places before `i`, whose total is `before`, a free stretch of neighbours that
 // begins with the place that is tried, and the lower places that hold the position. `back`, the last part, goes on from the
 // position after.
+// Kept: lowering mirrors raising and is no twin of it: sums grow at the other end, and each bound and order is turned round.
 pub(crate) fn lower<M: Measure>(
     lo: &Fixed<M>,
     hi: &[u16],
