@@ -1,5 +1,5 @@
 -- Where a column of the table begins.
-use Rattle.std.proofs.Common.{◌≡◌, ℕ, zero, suc, ◌+◌, ◌-◌, ◌*◌, ◌/◌, ◌<◌, ◌≤◌, refl, ap, ◌∙◌, suc-mul, zero-mul, mul-one, mul-add, add-one, arith}
+use Rattle.std.proofs.Common.{◌≡◌, ℕ, zero, suc, ◌+◌, ◌-◌, ◌*◌, ◌/◌, ◌≤◌, refl, ap, ◌∙◌, suc-mul, zero-mul, mul-one, mul-add, add-one, arith}
 use native.Mathlib.Nat.{div-eq_of_eq-mul_right}
 use Rattle.squeezing.specs.Table.{offset}
 
@@ -24,17 +24,6 @@ offset_up n k zero = omega (arith, ap (offset n) (let e : k + 0 ≡ k = omega ar
 offset_up n k (suc j) =
     let e : k + suc j ≡ (k + j) + 1 = omega arith in
     omega (arith, offset_up n k j, ap (offset n) e, offset_next n (k + j))
-
--- what the column of k + 1 neighbours has lies in the table
-pub offset_within : (n k p : ℕ) → p + k < n → offset n k + p < offset n n
-offset_within n k p h =
-    let e : (k + 1) + (n - (k + 1)) ≡ n = omega arith in
-    omega (arith, offset_next n k, offset_up n (k + 1) (n - (k + 1)), ap (offset n) e)
-
-pub offset_all : (n : ℕ) → n ≤ offset n n
-unfolding offset
-offset_all zero = omega arith
-offset_all (suc n) = omega (arith, offset_up (suc n) 1 n, ap (offset (suc n)) (let e : 1 + n ≡ suc n = omega arith in e))
 
 pub offset-zero : (n : ℕ) → offset n 0 ≡ 0
 unfolding offset
