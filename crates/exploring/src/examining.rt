@@ -4,7 +4,7 @@ ghost use Rattle.exploring.specs.Waiting.{items_of, Ready, Examined};
 
 use crate::opening::first_open;
 use crate::work::Work;
-use measure::Measure;
+use measure::{Band, Measure};
 use squeezing::spaces::squeezed;
 
 // Writes the places in front of the page.
@@ -27,7 +27,11 @@ pub(crate) fn examine<M: Measure>(table: &[M], work: &mut Work<M>, page: &mut [u
     ensures is { Holds M.algebra M.Measure.row M.span work.old.frontier.root.n work.old.frontier.root.m table.now → Examined result page.old page.new (items_of M.algebra M.Measure.row table.now (M.Measure.row work.old.low) (M.Measure.row work.old.high) work.old.frontier) (items_of M.algebra M.Measure.row table.now (M.Measure.row work.old.low) (M.Measure.row work.old.high) work.new.frontier) }
 {
     let space = work.frontier.take();
-    let Some(left) = squeezed(space, table, &mut work.room, work.low, work.high) else {
+    let band = Band {
+        low: work.low,
+        high: work.high,
+    };
+    let Some(left) = squeezed(space, table, &mut work.room, band) else {
         return false;
     };
     let Some(i) = first_open(&left) else {

@@ -1,5 +1,5 @@
 -- Where a column of the table begins.
-use Rattle.std.proofs.Common.{◌≡◌, ℕ, zero, suc, ◌+◌, ◌-◌, ◌*◌, ◌/◌, ◌<◌, ◌≤◌, refl, ap, ◌∙◌, suc-mul, zero-mul, mul-one, mul-add, add-one, arith}
+use Rattle.std.proofs.Common.{◌≡◌, ℕ, zero, suc, ◌+◌, ◌-◌, ◌*◌, ◌/◌, ◌≤◌, refl, ap, ◌∙◌, suc-mul, zero-mul, mul-one, mul-add, add-one, arith}
 use native.Mathlib.Nat.{div-eq_of_eq-mul_right}
 use Rattle.squeezing.specs.Table.{offset}
 
@@ -25,17 +25,6 @@ offset_up n k (suc j) =
     let e : k + suc j ≡ (k + j) + 1 = omega arith in
     omega (arith, offset_up n k j, ap (offset n) e, offset_next n (k + j))
 
--- what the column of k + 1 neighbours has lies in the table
-pub offset_within : (n k p : ℕ) → p + k < n → offset n k + p < offset n n
-offset_within n k p h =
-    let e : (k + 1) + (n - (k + 1)) ≡ n = omega arith in
-    omega (arith, offset_next n k, offset_up n (k + 1) (n - (k + 1)), ap (offset n) e)
-
-pub offset_all : (n : ℕ) → n ≤ offset n n
-unfolding offset
-offset_all zero = omega arith
-offset_all (suc n) = omega (arith, offset_up (suc n) 1 n, ap (offset (suc n)) (let e : 1 + n ≡ suc n = omega arith in e))
-
 pub offset-zero : (n : ℕ) → offset n 0 ≡ 0
 unfolding offset
 offset-zero n = refl
@@ -57,3 +46,7 @@ pub offset_fewer : (n k m : ℕ) → k ≤ m → offset n k ≤ offset n m
 offset_fewer n k m h =
     let e : k + (m - k) ≡ m = omega arith in
     omega (arith, offset_up n k (m - k), ap (offset n) e)
+
+-- the column of k neighbours lies in a table that is long enough for m columns
+pub column_within : (n k m cells : ℕ) → 1 ≤ k → k ≤ m → m ≤ n → offset n m ≤ cells → offset n (k - 1) + (n - k + 1) ≤ cells
+column_within n k m cells some few fits long = omega (arith, offset_from n k some (omega arith), offset_fewer n k m few)

@@ -6,6 +6,7 @@ use Rattle.std.proofs.lemmas.List.Sums.{sum_by-set}
 use Rattle.std.proofs.lemmas.Bool.{true≢false, eqb-true, eqb-false}
 use Rattle.measure.specs.Algebra.{Algebra, Row}
 use Rattle.sets.specs.Spaces.{lower, lower_from}
+use Rattle.squeezing.specs.declared.table.Totals.{Totals}
 use Rattle.squeezing.specs.Standing.{Back, Higher, Above}
 use Rattle.squeezing.proofs.Sums.{stands_none}
 use Rattle.squeezing.proofs.RaisingPass.{set_here, set_each}
@@ -83,18 +84,18 @@ module _ (hi : List ℕ) (i v : ℕ) (within : i < length hi) where
   fell-set false was h r = fell_go was (eqb v (get_or hi i 0)) refl h r
 
 -- the places that held the position after, hold the one before it at the place before
-pub back_next : {M : Type 0} (a : Algebra) (row : M → Row) (span : M → ℕ) (n m : ℕ) (table : List M) (lo hi : List ℕ) (i v e : ℕ) (x : M) → i < length hi → 1 ≤ v → 0 < i → Back a row span n m table lo i v e x → Back a row span n m table lo (i - 1) (get_or (set hi i v) (i - 1 + 1) 0 - 1) e x
-back_next a row span n m table lo hi i v e x within some more b =
+pub back_next : {M : Type 0} (a : Algebra) (row : M → Row) (span : M → ℕ) (t : Totals M) (lo hi : List ℕ) (i v e : ℕ) (x : M) → i < length hi → 1 ≤ v → 0 < i → Back a row span t lo i v e x → Back a row span t lo (i - 1) (get_or (set hi i v) (i - 1 + 1) 0 - 1) e x
+back_next a row span t lo hi i v e x within some more b =
     let next : i - 1 + 1 ≡ i = omega arith in
     let here : get_or (set hi i v) (i - 1 + 1) 0 ≡ v = ap (λ q. get_or (set hi i v) q 0) next ∙ set_here hi i v within in
     record { past = omega (arith, b.past); upto = b.upto; stands = b.stands; held = λ j h k. omega (arith, b.held j h k, b.past, here) }
 
 -- no place holds the last position
-pub back_none : {M : Type 0} (a : Algebra) (row : M → Row) (span : M → ℕ) (n m : ℕ) (table : List M) (lo : List ℕ) (v : ℕ) (x : M) → 0 < length lo → (row x ≡ a.nothing) × (span x ≡ 0) → Back a row span n m table lo (length lo - 1) v (length lo) x
-back_none a row span n m table lo v x some none = record {
+pub back_none : {M : Type 0} (a : Algebra) (row : M → Row) (span : M → ℕ) (t : Totals M) (lo : List ℕ) (v : ℕ) (x : M) → 0 < length lo → (row x ≡ a.nothing) × (span x ≡ 0) → Back a row span t lo (length lo - 1) v (length lo) x
+back_none a row span t lo v x some none = record {
   past = omega arith;
   upto = omega arith;
-  stands = rw (drop-length lo) (stands_none a row span n m table x none);
+  stands = rw (drop-length lo) (stands_none a row span t.n t.m t.values.now x none);
   held = λ j h k. absurd (omega arith);
 }
 

@@ -5,6 +5,7 @@ use Rattle.std.proofs.lemmas.List.Sums.{sum_by-set}
 use Rattle.std.proofs.lemmas.Bool.{true≢false, cases_eq, eqb-true, eqb-false}
 use Rattle.measure.specs.Algebra.{Algebra, Row}
 use Rattle.sets.specs.Spaces.{raise, raise_from}
+use Rattle.squeezing.specs.declared.table.Totals.{Totals}
 use Rattle.squeezing.specs.Standing.{Front, Lower, Above}
 
 -- the lower places before index i are raised: each at most its upper place, and rising
@@ -95,8 +96,8 @@ module _ (lo : List ℕ) (i v : ℕ) (within : i < length lo) where
   rose-set false was h r = rose_go was (eqb v (get_or lo i 0)) refl h r
 
 -- the places that held the position before, held this one at the place after
-pub front_next : {M : Type 0} (a : Algebra) (row : M → Row) (span : M → ℕ) (n m : ℕ) (table : List M) (hi lo : List ℕ) (i v s : ℕ) (x : M) → i < length lo → Front a row span n m table hi i v s x → Front a row span n m table hi (i + 1) (get_or (set lo i v) (i + 1 - 1) 0 + 1) s x
-front_next a row span n m table hi lo i v s x within f =
+pub front_next : {M : Type 0} (a : Algebra) (row : M → Row) (span : M → ℕ) (t : Totals M) (hi lo : List ℕ) (i v s : ℕ) (x : M) → i < length lo → Front a row span t hi i v s x → Front a row span t hi (i + 1) (get_or (set lo i v) (i + 1 - 1) 0 + 1) s x
+front_next a row span t hi lo i v s x within f =
     let next : i + 1 - 1 ≡ i = omega arith in
     let e : get_or (set lo i v) (i + 1 - 1) 0 ≡ v = ap (λ q. get_or (set lo i v) q 0) next ∙ set_here lo i v within in
     record { start = omega (arith, f.start); stands = f.stands; held = λ j h. omega (arith, f.held j h, f.start, e) }

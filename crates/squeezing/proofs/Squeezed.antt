@@ -83,8 +83,8 @@ pub moved_less : (n : ℕ) (rose fell : Bool) (lo lo' hi hi' : List ℕ) → (ro
 moved_less n rose fell lo lo' hi hi' e r f fair =
     omega (arith, narrower rose fell (sum lo) (sum lo') (sum hi) (sum hi') e r.rose f.fell, fair_sums n lo' hi' fair, r.rose, f.fell)
 
-pub moved_other : (n : ℕ) (rose fell : Bool) (lo lo' hi hi' : List ℕ) → (rose || fell) ≡ true → Rose rose lo lo' → Fell fell hi hi' → (same lo lo' && same hi hi') ≡ false
-moved_other n rose fell lo lo' hi hi' e r f =
+pub moved_other : (rose fell : Bool) (lo lo' hi hi' : List ℕ) → (rose || fell) ≡ true → Rose rose lo lo' → Fell fell hi hi' → (same lo lo' && same hi hi') ≡ false
+moved_other rose fell lo lo' hi hi' e r f =
     ⊎_elim
     (λ t.
     let parts = and_parts (same lo lo') (same hi hi') t in

@@ -3,6 +3,7 @@
 // them; the code keeps position i at index i - 1 of its arrays.
 #![tactic(auto)]
 
+mod fixed;
 pub mod frame;
 mod lowering;
 mod passes;

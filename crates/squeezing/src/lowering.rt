@@ -1,22 +1,18 @@
 ghost use Rattle.std.specs.Prelude.{◌≡◌, ℕ, ◌+◌, ◌-◌, ◌<◌, ◌≤◌, length, take, Some, slice_index};
 ghost use Rattle.sets.specs.Spaces.{lower as lowers};
-ghost use Rattle.squeezing.specs.Table.{Stands, Holds, entries, offset};
-ghost use Rattle.squeezing.specs.Standing.{Back as BackIs, Higher, Places, Prefixes};
+ghost use Rattle.squeezing.specs.Standing.{Back as BackIs, Higher, HoldsIn, Prefixes, StandsIn, entries_in};
 
-use crate::table::neighbours;
+use crate::fixed::Fixed;
 use measure::Measure;
 
 // Writes the total of the lower places before each index.
-pub(crate) fn lower_totals<M: Measure>(table: &[M], n: usize, lo: &[u16], totals: &mut [M])
-    requires small { n ≤ 120 }
-    requires sized { offset n (length lo.now) ≤ length table.now }
-    requires places { Places n lo.now }
-    requires room { length lo.now < length totals.old }
-    ensures { Prefixes M.algebra M.Measure.row M.span n (length lo.now) table.now lo.now totals.new }
+pub(crate) fn lower_totals<M: Measure>(lo: &Fixed<M>, room: &mut [M])
+    requires room { length lo.now.places.now < length room.old }
+    ensures { Prefixes M.algebra M.Measure.row M.span lo.now.totals.now lo.now.places.now room.new }
 {
-    totals[0] = M::nothing();
-    for j in 0..lo.len() {
-        totals[j + 1] = totals[j].plus(neighbours(table, n, lo[j] as usize, 1));
+    room[0] = M::nothing();
+    for j in 0..lo.places.len() {
+        room[j + 1] = room[j].plus(lo.total(j));
     }
 }
 
@@ -27,49 +23,55 @@ pub struct Back<M> {
     pub after: M,
 }
 
+impl<M: Measure> Back<M> {
+    // Goes on to the lower places that hold the position at index `i` from `v` down.
+    fn advance(&mut self, lo: &Fixed<M>, i: usize, v: u16)
+        requires so_far { BackIs M.algebra M.Measure.row M.span lo.now.totals.now lo.now.places.now i v self.old.end self.old.after }
+        ensures on { BackIs M.algebra M.Measure.row M.span lo.now.totals.now lo.now.places.now i v self.new.end self.new.after }
+        ensures free { i + 1 < self.new.end → slice_index lo.now.places.now (self.new.end - 1) < v + (self.new.end - 1 - i) }
+    {
+        while self.end > i + 1
+            && lo.places[self.end - 1] as usize >= v as usize + (self.end - 1 - i)
+        {
+            self.end -= 1;
+            self.after = lo.total(self.end).plus(self.after);
+        }
+    }
+}
+
 // Lowering the position at index `i`: the greatest place, down to its lower one, with which the lowest total is not above
 // `high`. That total has three parts: the lower places before `i`, whose total is `before`, a free stretch of neighbours that
 // begins with the place that is tried, and the lower places that hold the position. `back`, the last part, goes on from the
 // position after.
+// Kept: lowering mirrors raising and is no twin of it: sums grow at the other end, and each bound and order is turned round.
 pub(crate) fn lower<M: Measure>(
-    table: &[M],
-    n: usize,
-    lo: &[u16],
+    lo: &Fixed<M>,
     hi: &[u16],
     i: usize,
     back: &mut Back<M>,
     before: M,
     high: M,
 ) -> Option<u16>
-    requires small { n ≤ 120 }
-    requires sized { offset n (length lo.now) ≤ length table.now }
-    requires places { Places n lo.now }
-    requires higher { Higher n hi.now }
-    requires within { i < length lo.now }
-    requires same { length hi.now ≡ length lo.now }
-    requires so_far { BackIs M.algebra M.Measure.row M.span n (length lo.now) table.now lo.now i (slice_index hi.now (i + 1) - 1) back.old.end back.old.after }
-    requires rest { Stands M.algebra M.Measure.row M.span n (length lo.now) table.now (take i lo.now) before }
-    ensures found { (v : ℕ) → result ≡ Some v → (slice_index lo.now i ≤ v) × (v ≤ slice_index hi.now i) × (i + 1 < length hi.now → v ≤ slice_index hi.now (i + 1) - 1) }
-    ensures place { Holds M.algebra M.Measure.row M.span n (length lo.now) table.now → result ≡ lowers M.algebra (entries M.Measure.row n table.now) (M.Measure.row high) lo.now hi.now (i + 1) }
-    ensures on { (v : ℕ) → result ≡ Some v → BackIs M.algebra M.Measure.row M.span n (length lo.now) table.now lo.now i v back.new.end back.new.after }
+    requires higher { Higher lo.now.totals.now.n hi.now }
+    requires within { i < length lo.now.places.now }
+    requires same { length hi.now ≡ length lo.now.places.now }
+    requires so_far { BackIs M.algebra M.Measure.row M.span lo.now.totals.now lo.now.places.now i (slice_index hi.now (i + 1) - 1) back.old.end back.old.after }
+    requires rest { StandsIn M.algebra M.Measure.row M.span lo.now.totals.now (take i lo.now.places.now) before }
+    ensures found { (v : ℕ) → result ≡ Some v → (slice_index lo.now.places.now i ≤ v) × (v ≤ slice_index hi.now i) × (i + 1 < length hi.now → v ≤ slice_index hi.now (i + 1) - 1) }
+    ensures place { HoldsIn M.algebra M.Measure.row M.span lo.now.totals.now → result ≡ lowers M.algebra (entries_in M.Measure.row lo.now.totals.now) (M.Measure.row high) lo.now.places.now hi.now (i + 1) }
+    ensures on { (v : ℕ) → result ≡ Some v → BackIs M.algebra M.Measure.row M.span lo.now.totals.now lo.now.places.now i v back.new.end back.new.after }
 {
-    let mut v = hi[i];
+    let mut greatest = hi[i];
     if i + 1 < hi.len() {
-        v = v.min(hi[i + 1] - 1);
+        greatest = greatest.min(hi[i + 1] - 1);
     }
-    'places: while v >= lo[i] {
-        'held: while back.end > i + 1
-            && lo[back.end - 1] as usize >= v as usize + (back.end - 1 - i)
-        {
-            back.end -= 1;
-            back.after = neighbours(table, n, lo[back.end] as usize, 1).plus(back.after);
-        }
-        let run = neighbours(table, n, v as usize, back.end - i);
+    'places: for v in (lo.places[i]..=greatest).rev() {
+        back.advance(lo, i, v);
+        let run = lo.totals.neighbours(v as usize, back.end - i);
         let sum = before.plus(run).plus(back.after);
         if sum.not_above(high) {
             return Some(v);
         }
-        v -= 1;
     }
     None
 }

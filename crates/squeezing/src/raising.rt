@@ -1,22 +1,18 @@
 ghost use Rattle.std.specs.Prelude.{◌≡◌, ℕ, ◌+◌, ◌-◌, ◌<◌, ◌≤◌, length, drop, Some, slice_index};
 ghost use Rattle.sets.specs.Spaces.{raise as raises};
-ghost use Rattle.squeezing.specs.Table.{Stands, Holds, entries, offset};
-ghost use Rattle.squeezing.specs.Standing.{Front as FrontIs, Lower, Suffixes, Places};
+ghost use Rattle.squeezing.specs.Standing.{Front as FrontIs, HoldsIn, Lower, Suffixes, StandsIn, entries_in};
 
-use crate::table::neighbours;
+use crate::fixed::Fixed;
 use measure::Measure;
 
 // Writes the total of the upper places from each index on.
-pub(crate) fn upper_totals<M: Measure>(table: &[M], n: usize, hi: &[u16], totals: &mut [M])
-    requires small { n ≤ 120 }
-    requires sized { offset n (length hi.now) ≤ length table.now }
-    requires upper { Places n hi.now }
-    requires room { length hi.now < length totals.old }
-    ensures { Suffixes M.algebra M.Measure.row M.span n (length hi.now) table.now hi.now totals.new }
+pub(crate) fn upper_totals<M: Measure>(hi: &Fixed<M>, room: &mut [M])
+    requires room { length hi.now.places.now < length room.old }
+    ensures { Suffixes M.algebra M.Measure.row M.span hi.now.totals.now hi.now.places.now room.new }
 {
-    totals[hi.len()] = M::nothing();
-    for j in (0..hi.len()).rev() {
-        totals[j] = neighbours(table, n, hi[j] as usize, 1).plus(totals[j + 1]);
+    room[hi.places.len()] = M::nothing();
+    for j in (0..hi.places.len()).rev() {
+        room[j] = hi.total(j).plus(room[j + 1]);
     }
 }
 
@@ -27,50 +23,54 @@ pub struct Front<M> {
     pub before: M,
 }
 
+impl<M: Measure> Front<M> {
+    // Goes on to the upper places that hold the position at index `i` from `v` on.
+    fn advance(&mut self, hi: &Fixed<M>, i: usize, v: u16)
+        requires within { i < length hi.now.places.now }
+        requires so_far { FrontIs M.algebra M.Measure.row M.span hi.now.totals.now hi.now.places.now i v self.old.start self.old.before }
+        ensures on { FrontIs M.algebra M.Measure.row M.span hi.now.totals.now hi.now.places.now i v self.new.start self.new.before }
+        ensures free { self.new.start < i → v < slice_index hi.now.places.now self.new.start + (i - self.new.start) }
+    {
+        while self.start < i && hi.places[self.start] as usize + (i - self.start) <= v as usize {
+            self.before = self.before.plus(hi.total(self.start));
+            self.start += 1;
+        }
+    }
+}
+
 // Raising the position at index `i`: the least place, up to its upper one, with which `low` is not above the highest total.
 // That total has three parts: the upper places that hold the position, a free stretch of neighbours that ends in the place
 // that is tried, and the upper places past `i`. `front`, the first part, goes on from the position before; `after` is the
 // total of the last.
 pub(crate) fn raise<M: Measure>(
-    table: &[M],
-    n: usize,
+    hi: &Fixed<M>,
     lo: &[u16],
-    hi: &[u16],
     i: usize,
     front: &mut Front<M>,
     after: M,
     low: M,
 ) -> Option<u16>
-    requires small { n ≤ 120 }
-    requires sized { offset n (length hi.now) ≤ length table.now }
-    requires upper { Places n hi.now }
-    requires lower { Lower n lo.now }
-    requires within { i < length hi.now }
-    requires same { length lo.now ≡ length hi.now }
-    requires so_far { FrontIs M.algebra M.Measure.row M.span n (length hi.now) table.now hi.now i (slice_index lo.now (i - 1) + 1) front.old.start front.old.before }
-    requires rest { Stands M.algebra M.Measure.row M.span n (length hi.now) table.now (drop (i + 1) hi.now) after }
-    ensures found { (v : ℕ) → result ≡ Some v → (slice_index lo.now i ≤ v) × (0 < i → slice_index lo.now (i - 1) < v) × (v ≤ slice_index hi.now i) }
-    ensures place { Holds M.algebra M.Measure.row M.span n (length hi.now) table.now → result ≡ raises M.algebra (entries M.Measure.row n table.now) (M.Measure.row low) lo.now hi.now (i + 1) }
-    ensures on { (v : ℕ) → result ≡ Some v → FrontIs M.algebra M.Measure.row M.span n (length hi.now) table.now hi.now i v front.new.start front.new.before }
+    requires lower { Lower hi.now.totals.now.n lo.now }
+    requires within { i < length hi.now.places.now }
+    requires same { length lo.now ≡ length hi.now.places.now }
+    requires so_far { FrontIs M.algebra M.Measure.row M.span hi.now.totals.now hi.now.places.now i (slice_index lo.now (i - 1) + 1) front.old.start front.old.before }
+    requires rest { StandsIn M.algebra M.Measure.row M.span hi.now.totals.now (drop (i + 1) hi.now.places.now) after }
+    ensures found { (v : ℕ) → result ≡ Some v → (slice_index lo.now i ≤ v) × (0 < i → slice_index lo.now (i - 1) < v) × (v ≤ slice_index hi.now.places.now i) }
+    ensures place { HoldsIn M.algebra M.Measure.row M.span hi.now.totals.now → result ≡ raises M.algebra (entries_in M.Measure.row hi.now.totals.now) (M.Measure.row low) lo.now hi.now.places.now (i + 1) }
+    ensures on { (v : ℕ) → result ≡ Some v → FrontIs M.algebra M.Measure.row M.span hi.now.totals.now hi.now.places.now i v front.new.start front.new.before }
 {
-    let mut v = lo[i];
+    let mut least = lo[i];
     if i > 0 {
-        v = v.max(lo[i - 1] + 1);
+        least = least.max(lo[i - 1] + 1);
     }
-    'places: while v <= hi[i] {
-        'held: while front.start < i && hi[front.start] as usize + (i - front.start) <= v as usize {
-            front.before = front
-                .before
-                .plus(neighbours(table, n, hi[front.start] as usize, 1));
-            front.start += 1;
-        }
+    'places: for v in least..=hi.places[i] {
+        front.advance(hi, i, v);
         let k = i - front.start;
-        let run = neighbours(table, n, v as usize - k, k + 1);
+        let run = hi.totals.neighbours(v as usize - k, k + 1);
         let sum = front.before.plus(run).plus(after);
         if low.not_above(sum) {
             return Some(v);
         }
-        v += 1;
     }
     None
 }

@@ -3,19 +3,18 @@ ghost use Rattle.squeezing.specs.Frames.{Leaves};
 
 use crate::frame::Frame;
 use crate::passes::squeeze;
-use crate::table::column_start;
-use measure::Measure;
+use crate::table::Totals;
+use measure::{Band, Measure};
 
-// What squeezing leaves of a space between two ends, if it leaves any set. `room` is for the totals of one pass. Where the
-// table or the room is too short for the space, nothing is left.
+// What squeezing leaves of a space between the ends of a band, if it leaves any set. `room` is for the totals of one pass.
+// Where the table or the room is too short for the space, nothing is left.
 pub fn squeezed<M: Measure>(
     frame: Frame,
     table: &[M],
     room: &mut [M],
-    low: M,
-    high: M,
+    band: Band<M>,
 ) -> Option<Frame>
-    ensures { Leaves M.algebra M.Measure.row M.span table.now (length room.old) (M.Measure.row low) (M.Measure.row high) frame result }
+    ensures { Leaves M.algebra M.Measure.row M.span table.now (length room.old) (M.Measure.row band.low) (M.Measure.row band.high) frame result }
 {
     let Frame {
         n,
@@ -23,13 +22,12 @@ pub fn squeezed<M: Measure>(
         mut lo,
         mut hi,
     } = frame;
-    if table.len() < column_start(n, m) {
-        return None;
-    }
+    let totals = Totals::over(table, n, m)?;
     if room.len() <= m {
         return None;
     }
-    if squeeze(table, n, &mut lo[0..m], &mut hi[0..m], room, low, high) {
+    // Kept: `then_some` would make a frame also where no set is left, and such places need not be a space.
+    if squeeze(&totals, &mut lo[0..m], &mut hi[0..m], room, band) {
         Some(Frame { n, m, lo, hi })
     } else {
         None

@@ -1,70 +1,36 @@
-use Rattle.std.proofs.Common.{◌≡◌, ◌+◌, ◌-◌, ◌<◌, length, get_or, sym, ap, ◌∙◌, arith}
-use Rattle.squeezing.proofs.Columns.{offset_fewer}
-use Rattle.sets.specs.Spaces.{lowered}
-use Rattle.squeezing.specs.Table.{Stands, Holds}
-use Rattle.squeezing.proofs.LoweredTotals.{back_more, lowered_stands, greatest_to_here, greatest_to_next}
+use Rattle.std.proofs.Common.{◌≡◌, ◌+◌, get_or, sym, ap, ◌∙◌, arith}
+use Rattle.sets.specs.Spaces.{lowered, stays}
+use Rattle.squeezing.specs.Standing.{StandsIn, HoldsIn, entries_in}
+use Rattle.squeezing.proofs.Sums.{places_of}
+use Rattle.squeezing.proofs.LoweredTotals.{lowered_stands, greatest_to_here, greatest_to_next, greatest_to_none}
 use Rattle.squeezing.proofs.lowering.lower.Given.{Over}
 use Rattle.squeezing.proofs.lowering.lower.Goals as goal
-use Rattle.squeezing.proofs.lowering.lower.Goals.{After-plus-sum, then-held-test+else-lo-back, else-held-test}
+use Rattle.squeezing.proofs.lowering.lower.Goals.{After-not_above}
 
-pub bounds-lo-back-in-held : goal.bounds-lo-back-in-held
-bounds-lo-back-in-held g c = omega (arith, c.held.invariant.upto)
-
-pub held-preserved : goal.held-preserved
-held-preserved g c =
+-- what was found of the place that is tried is what the definition asks of it
+tried : (g : Over) (c : After-not_above g) → HoldsIn g.M.Measure.algebra g.M.Measure.row g.M.Measure.span c.args.lo.now.totals.now → stays g.M.Measure.algebra (entries_in g.M.Measure.row c.args.lo.now.totals.now) (g.M.Measure.row c.args.high) c.args.lo.now.places.now (c.args.i + 1) c.places.v ≡ c.not_above.result
+tried g c held =
     let m = g.M.Measure in
-    back_more m.algebra g.met.M.Measure.lawful m.row m.span g.met.M.Measure.owned c.args.n (length c.args.lo.now) c.args.table.now c.requires.small c.args.lo.now c.requires.places c.args.i c.places.v c.held.back.end c.held.back.after c.neighbours.result c.plus-back.result (omega arith) (omega arith) c.held.invariant (c.neighbours.ensures (length c.args.lo.now) (omega arith)) (λ h. (c.plus-back.ensures.exact h, c.plus-back.ensures.small h))
+    let t = c.args.lo.now.totals.now in
+    let back = c.advance.new.self in
+    let st : StandsIn m.algebra m.row m.span t (lowered c.args.lo.now.places.now (c.args.i + 1) c.places.v) c.plus-sum.result =
+    lowered_stands m.algebra g.met.M.Measure.lawful m.row m.span g.met.M.Measure.owned t c.args.lo.now.places.now (places_of c.args.lo.now) c.args.i back.end c.places.v c.args.before c.neighbours-run.result back.after c.plus.result c.plus-sum.result (omega arith) c.places.invariant.0 c.advance.ensures.free c.requires.rest c.neighbours-run.ensures c.advance.ensures.on (c.plus.ensures.exact, c.plus.ensures.small) (c.plus-sum.ensures.exact, c.plus-sum.ensures.small) in
+    sym (ap (λ t. m.algebra.not_above t (m.row c.args.high)) (st.stood held).row_is) ∙ sym c.not_above.ensures
 
--- what was added up in the turn is the total of the lowered places
-sum_stands : (g : Over) (c : After-plus-sum g) → Stands g.M.Measure.algebra g.M.Measure.row g.M.Measure.span c.args.n (length c.args.lo.now) c.args.table.now (lowered c.args.lo.now (c.args.i + 1) c.places.v) c.plus-sum.result
-sum_stands g c =
-    let m = g.M.Measure in
-    let free : c.args.i + 1 < c.held.back.end → get_or c.args.lo.now (c.held.back.end - 1) 0 < c.places.v + (c.held.back.end - 1 - c.args.i) =
-    λ h. elim c.held-test.branch [ then-held-test+else-lo-back w ↦ w.if-lo-back.false | else-held-test w ↦ omega (arith, w.held-test) ] in
-    lowered_stands m.algebra g.met.M.Measure.lawful m.row m.span g.met.M.Measure.owned c.args.n (length c.args.lo.now) c.args.table.now c.requires.small c.args.lo.now c.requires.places c.args.i c.held.back.end c.places.v c.args.before c.neighbours-run.result c.held.back.after c.plus.result c.plus-sum.result (omega arith) c.places.invariant.0 free c.requires.rest (c.neighbours-run.ensures (length c.args.lo.now) (omega arith)) c.held.invariant (λ h. (c.plus.ensures.exact h, c.plus.ensures.small h)) (λ h. (c.plus-sum.ensures.exact h, c.plus-sum.ensures.small h))
-
-pub returns-then-not_above : goal.returns-then-not_above
-returns-then-not_above g c =
-    let m = g.M.Measure in
-    let st = sum_stands g (goal.at.returns-then-not_above g c).After-plus-sum in
-    let yes_here = λ (held : Holds m.algebra m.row m.span c.args.n (length c.args.lo.now) c.args.table.now). sym (ap (λ t. m.algebra.not_above t (m.row c.args.high)) (st.stood held).row_is) ∙ sym c.not_above.ensures ∙ c.if-not_above.true in
-    record {
-      found = λ v e. let same : c.places.v ≡ v = cc in rw (sym same) (omega arith, c.places.invariant.1, c.places.invariant.2);
-      place = λ held. sym (c.places.invariant.4 held ∙ greatest_to_here _ c.places.v (get_or c.args.lo.now c.args.i 0) (omega arith) (yes_here held));
-      on = λ v e. let same : c.places.v ≡ v = cc in rw (sym same) c.held.invariant;
-    }
+pub returns-then-not_above-clause-place : goal.returns-then-not_above-clause-place
+returns-then-not_above-clause-place g c = λ held.
+    sym (c.places.invariant.4 held ∙ greatest_to_here _ c.places.v (get_or c.args.lo.now.places.now c.args.i 0) (omega arith) (tried g (goal.at.returns-then-not_above-clause-place g c).After-not_above held ∙ c.if-not_above.true))
 
 pub places-preserved : goal.places-preserved
 places-preserved g c =
-    let m = g.M.Measure in
-    let st = sum_stands g (goal.at.places-preserved g c).After-plus-sum in
-    let not_here = λ (held : Holds m.algebra m.row m.span c.args.n (length c.args.lo.now) c.args.table.now). sym (ap (λ t. m.algebra.not_above t (m.row c.args.high)) (st.stood held).row_is) ∙ sym c.not_above.ensures ∙ c.if-not_above.false in (
+    let on = c.advance.ensures.on in (
       omega arith,
       omega arith,
       λ h. omega (arith, c.places.invariant.2 h),
-      record { past = c.held.invariant.past; upto = c.held.invariant.upto; stands = c.held.invariant.stands; held = λ j h k. omega (arith, c.held.invariant.held j h k) },
-      λ held. c.places.invariant.4 held ∙ greatest_to_next _ c.places.v (get_or c.args.lo.now c.args.i 0) (omega (arith, c.requires.places.least c.args.i c.requires.within)) (omega arith) (not_here held),
+      record { past = on.past; upto = on.upto; stands = on.stands; held = λ j h k. omega (arith, on.held j h k) },
+      λ held. c.places.invariant.4 held ∙ greatest_to_next _ c.places.v (get_or c.args.lo.now.places.now c.args.i 0) (omega (arith, (places_of c.args.lo.now).least c.args.i c.requires.within)) (omega arith) (tried g (goal.at.places-preserved g c).After-not_above held ∙ c.if-not_above.false),
     )
 
-pub neighbours-requires : goal.neighbours-requires
-neighbours-requires g c =
-    let lo = c.args.lo.now in
-    let s = c.held.back.end - 1 in
-    let within : s < length lo = omega (arith, c.held.invariant.upto) in
-    record {
-      small = c.requires.small;
-      sized = omega (arith, offset_fewer c.args.n 1 (length lo) (omega arith), c.requires.sized);
-      some = (omega (arith, c.requires.places.least s within), omega arith);
-      within = omega (arith, c.requires.places.most s within);
-    }
-
-pub neighbours-run-requires : goal.neighbours-run-requires
-neighbours-run-requires g c =
-    let lo = c.args.lo.now in
-    let k = c.held.back.end - c.args.i in
-    record {
-      small = c.requires.small;
-      sized = omega (arith, offset_fewer c.args.n k (length lo) (omega (arith, c.held.invariant.upto)), c.requires.sized);
-      some = (omega (arith, c.requires.places.least c.args.i c.requires.within), omega (arith, c.held.invariant.past));
-      within = omega (arith, c.places.invariant.0, c.held.invariant.upto);
-    }
+pub returns-else-not_above-clause-place : goal.returns-else-not_above-clause-place
+returns-else-not_above-clause-place g c = λ held.
+    greatest_to_none _ c.places.v (get_or c.args.lo.now.places.now c.args.i 0) (omega arith) (omega arith) (tried g (goal.at.returns-else-not_above-clause-place g c).After-not_above held ∙ c.if-not_above.false) ∙ sym (c.places.invariant.4 held)

@@ -1,6 +1,6 @@
 use Rattle.std.proofs.Common.{◌≡◌, ℕ, ◌+◌, ◌-◌, ◌<◌, ◌≤◌, length, get_or}
 use Rattle.sets.specs.Spaces.{squeeze, raise_from, lower_from, space, widths}
-use Rattle.squeezing.specs.Table.{Holds, entries}
+use Rattle.squeezing.specs.Standing.{HoldsIn, entries_in}
 use Rattle.squeezing.specs.Standing.{Front, Lower, Back, Higher, Fair, Above}
 use Rattle.squeezing.proofs.LoweringPass.{Lowered, Fell}
 use Rattle.squeezing.proofs.RaisingPass.{Settled, Rose}
@@ -10,8 +10,9 @@ use Rattle.squeezing.proofs.passes.squeeze.Given as goal
 abbrev pub invariant-passes : goal.invariant-passes
 invariant-passes g l =
     let m = g.M.Measure in
-    let xs = entries m.row l.n l.table in
-    Fair l.n l.lo l.hi × (length l.hi ≡ length l.initial.hi) × Above l.initial.lo l.lo × Above l.hi l.initial.hi × ((f : ℕ) × (widths l.lo l.hi ≤ f) × (Holds m.algebra m.row m.span l.n (length l.initial.hi) l.table → squeeze m.algebra xs (m.row l.low) (m.row l.high) (widths l.initial.lo l.initial.hi) (space l.initial.lo l.initial.hi) ≡ squeeze m.algebra xs (m.row l.low) (m.row l.high) f (space l.lo l.hi)))
+    let t = l.totals in
+    let xs = entries_in m.row t in
+    Fair t.n l.lo l.hi × (length l.hi ≡ length l.initial.hi) × Above l.initial.lo l.lo × Above l.hi l.initial.hi × ((f : ℕ) × (widths l.lo l.hi ≤ f) × (HoldsIn m.algebra m.row m.span t → squeeze m.algebra xs (m.row l.low) (m.row l.high) (widths l.initial.lo l.initial.hi) (space l.initial.lo l.initial.hi) ≡ squeeze m.algebra xs (m.row l.low) (m.row l.high) f (space l.lo l.hi)))
 
 abbrev pub decreases-passes : goal.decreases-passes
 decreases-passes g l = widths l.lo l.hi
@@ -20,12 +21,16 @@ decreases-passes g l = widths l.lo l.hi
 abbrev pub invariant-raising : goal.invariant-raising
 invariant-raising g l =
     let m = g.M.Measure in
-    let xs = entries m.row l.n l.table in
-    (length l.lo ≡ length l.hi) × Lower l.n l.lo × Settled l.i l.lo l.hi × Rose l.rose l.initial.lo l.lo × Front m.algebra m.row m.span l.n (length l.hi) l.table l.hi l.i (get_or l.lo (l.i - 1) 0 + 1) l.front.start l.front.before × (Holds m.algebra m.row m.span l.n (length l.hi) l.table → raise_from m.algebra xs (m.row l.low) l.hi 1 (length l.hi) l.initial.lo ≡ raise_from m.algebra xs (m.row l.low) l.hi (l.i + 1) (length l.hi - l.i) l.lo)
+    let t = l.totals in
+    let hi = l.uppers.places.now in
+    let xs = entries_in m.row t in
+    (length l.lo ≡ length hi) × Lower t.n l.lo × Settled l.i l.lo hi × Rose l.rose l.initial.lo l.lo × Front m.algebra m.row m.span t hi l.i (get_or l.lo (l.i - 1) 0 + 1) l.front.start l.front.before × (HoldsIn m.algebra m.row m.span t → raise_from m.algebra xs (m.row l.low) hi 1 (length hi) l.initial.lo ≡ raise_from m.algebra xs (m.row l.low) hi (l.i + 1) (length hi - l.i) l.lo)
 
 -- the positions from index i on are lowered
 abbrev pub invariant-lowering : goal.invariant-lowering
 invariant-lowering g l =
     let m = g.M.Measure in
-    let xs = entries m.row l.n l.table in
-    (length l.hi ≡ length l.lo) × Higher l.n l.hi × Lowered l.i l.lo l.hi × Fell l.fell l.initial.hi l.hi × (0 < l.i → Back m.algebra m.row m.span l.n (length l.lo) l.table l.lo (l.i - 1) (get_or l.hi (l.i - 1 + 1) 0 - 1) l.back.end l.back.after) × (Holds m.algebra m.row m.span l.n (length l.lo) l.table → lower_from m.algebra xs (m.row l.high) l.lo (length l.lo) l.initial.hi ≡ lower_from m.algebra xs (m.row l.high) l.lo l.i l.hi)
+    let t = l.totals in
+    let lo = l.lowers.places.now in
+    let xs = entries_in m.row t in
+    (length l.hi ≡ length lo) × Higher t.n l.hi × Lowered l.i lo l.hi × Fell l.fell l.initial.hi l.hi × (0 < l.i → Back m.algebra m.row m.span t lo (l.i - 1) (get_or l.hi (l.i - 1 + 1) 0 - 1) l.back.end l.back.after) × (HoldsIn m.algebra m.row m.span t → lower_from m.algebra xs (m.row l.high) lo (length lo) l.initial.hi ≡ lower_from m.algebra xs (m.row l.high) lo l.i l.hi)

@@ -1,37 +1,17 @@
-use Rattle.std.proofs.Common.{◌+◌, ◌-◌, ◌<◌, length, drop, sym, subst, arith}
+use Rattle.std.proofs.Common.{◌+◌, ◌-◌, length, drop, sym, subst, arith}
 use Rattle.std.proofs.lemmas.List.{length-set}
-use Rattle.squeezing.proofs.Columns.{offset_fewer}
-use Rattle.squeezing.specs.Table.{Stands, entries}
-use Rattle.squeezing.proofs.RaisedTotals.{suffix_more, suffix_set, suffix_last}
+use Rattle.squeezing.specs.Standing.{StandsIn}
+use Rattle.squeezing.proofs.Sums.{places_of}
+use Rattle.squeezing.proofs.RaisedTotals.{suffix_more, suffix_set}
 use Rattle.squeezing.proofs.raising.upper_totals.Goals as goal
-
-pub loop-j-init : goal.loop-j-init
-loop-j-init g c =
-    let m = g.M.Measure in
-    let xs = entries m.row c.args.n c.args.table.now in
-    suffix_last m.algebra m.row m.span c.args.n (length c.args.hi.now) c.args.table.now c.args.hi.now c.args.totals.now c.nothing.result c.requires.room (c.nothing.ensures.exact, c.nothing.ensures.small)
 
 pub loop-j-preserved : goal.loop-j-preserved
 loop-j-preserved g c =
     let m = g.M.Measure in
-    let hi = c.args.hi.now in
-    let totals = c.loop-j.totals in
+    let t = c.args.hi.now.totals.now in
+    let hi = c.args.hi.now.places.now in
+    let room = c.loop-j.room in
     let j = c.loop-j.j - 1 in
-    let xs = entries m.row c.args.n c.args.table.now in
-    let rest = subst (λ x. Stands m.algebra m.row m.span c.args.n (length c.args.hi.now) c.args.table.now (drop (j + 1) hi) x) (sym c.index-totals-j.is) (c.loop-j.invariant (j + 1) c.index-totals-j.result (omega arith) (omega arith)) in
-    let sum = suffix_more m.algebra g.met.M.Measure.lawful m.row m.span g.met.M.Measure.owned c.args.n (length c.args.hi.now) c.args.table.now c.requires.small hi c.requires.upper j c.neighbours.result c.index-totals-j.result c.plus.result (omega arith) (c.neighbours.ensures (length c.args.hi.now) (omega arith)) rest (λ h. (c.plus.ensures.exact h, c.plus.ensures.small h)) in
-    suffix_set m.algebra m.row m.span c.args.n (length c.args.hi.now) c.args.table.now hi totals j c.plus.result (omega (arith, length-set c.args.totals.now (length hi) c.nothing.result)) (λ k d h l. c.loop-j.invariant k d (omega arith) l) sum
-
-pub returns : goal.returns
-returns g c = record { many = omega (arith, length-set c.args.totals.now (length c.args.hi.now) c.nothing.result); each = λ j d h. c.loop-j.invariant j d (omega arith) h }
-
-pub neighbours-requires : goal.neighbours-requires
-neighbours-requires g c =
-    let v = c.args.hi.now in
-    let within : (c.loop-j.j - 1) < length v = omega arith in
-    record {
-      small = c.requires.small;
-      sized = omega (arith, offset_fewer c.args.n 1 (length v) (omega arith), c.requires.sized);
-      some = (omega (arith, c.requires.upper.least (c.loop-j.j - 1) within), omega arith);
-      within = omega (arith, c.requires.upper.most (c.loop-j.j - 1) within);
-    }
+    let rest = subst (λ x. StandsIn m.algebra m.row m.span t (drop (j + 1) hi) x) (sym c.index-room-j.is) (c.loop-j.invariant (j + 1) c.index-room-j.result (omega arith) (omega arith)) in
+    let sum = suffix_more m.algebra g.met.M.Measure.lawful m.row m.span g.met.M.Measure.owned t hi (places_of c.args.hi.now) j c.total.result c.index-room-j.result c.plus.result (omega arith) c.total.ensures rest (c.plus.ensures.exact, c.plus.ensures.small) in
+    suffix_set m.algebra m.row m.span t hi room j c.plus.result (omega (arith, length-set c.args.room.now (length hi) c.nothing.result)) (λ k d h l. c.loop-j.invariant k d (omega arith) l) sum
