@@ -8,15 +8,15 @@ use Rattle.crossed.specs.Books.{enters, entered, strikes, struck}
 
 -- what stands
 abbrev pub standing : Roll → List Entry
-standing r = held r.book
+standing r = held r.ledger
 
 -- how many cells the roll has
 abbrev pub room_of : Roll → ℕ
-room_of r = cells_of r.book
+room_of r = cells_of r.ledger
 
 -- what its cells hold, those behind what stands too
 abbrev pub memory_of : Roll → List Entry
-memory_of r = r.book.cells.now
+memory_of r = r.ledger.cells.now
 
 -- a roll of d columns opened over so many cells
 pub record Opened (cells : ℕ) (d : Columns) (is : Roll) : Type 0 where

@@ -9,7 +9,7 @@ ghost use Rattle.crossed.specs.Reachable.{AlwaysWellFormed};
 
 use crate::entries::{Columns, Entry, NOTHING, in_range, past_zero};
 use crate::rolls::Roll;
-use roll::book::Book;
+use roll::ledger::Ledger;
 use roll::refusal::Refusal;
 
 // The entry that stands in a cell which holds none.
@@ -30,7 +30,7 @@ pub fn open<'a>(cells: &'a mut [Entry], columns: Columns) -> Roll<'a>
     ensures { Opened (length cells.old) columns result }
 {
     Roll {
-        book: Book::open(cells),
+        ledger: Ledger::open(cells),
         columns,
     }
 }
@@ -40,7 +40,7 @@ impl<'a> Roll<'a> {
     pub fn len(&self) -> usize
         ensures { result ≡ length (standing self.now) }
     {
-        self.book.len()
+        self.ledger.len()
     }
 
     // How many columns the roll has.
@@ -54,14 +54,14 @@ impl<'a> Roll<'a> {
     pub fn get(&self, place: usize) -> Option<Entry>
         ensures { result ≡ at (standing self.now) place }
     {
-        self.book.get(place)
+        self.ledger.get(place)
     }
 
     // What stands, in place order.
     pub fn entries(&self) -> &[Entry]
         ensures { result.now ≡ standing self.now }
     {
-        self.book.entries()
+        self.ledger.entries()
     }
 
     // The refusal that entering meets, if any.
@@ -71,10 +71,10 @@ impl<'a> Roll<'a> {
         if !in_range(self.columns, one.value) {
             return Err(Refusal::Inadmissible);
         }
-        if self.book.has(one.number) {
+        if self.ledger.has(one.number) {
             return Err(Refusal::NumberTaken);
         }
-        if self.book.is_full() {
+        if self.ledger.is_full() {
             return Err(Refusal::RollFull);
         }
         if !past_zero(self.columns, one.value) {
@@ -89,21 +89,21 @@ impl<'a> Roll<'a> {
     {
         self.refusal(one)?;
         let place = place_of(self.entries(), one);
-        self.book.insert(place, one)
+        self.ledger.insert(place, one)
     }
 
     // Strikes the entry with the number and closes the gap, unless there is none.
     pub fn strike(&mut self, number: u32) -> Result<(), Refusal>
         ensures { Struck self.old number result self.new }
     {
-        self.book.strike(number)
+        self.ledger.strike(number)
     }
 
     // Begins anew with these columns: nothing stands, and every cell is zero.
     pub fn reopen(&mut self, columns: Columns)
         ensures { Reopened self.old columns self.new }
     {
-        self.book.clear(BLANK);
+        self.ledger.clear(BLANK);
         self.columns = columns;
     }
 }

@@ -1,4 +1,4 @@
--- What the calls of a book answer and leave.
+-- What the calls of a ledger answer and leave.
 use Rattle.std.proofs.Common.{◌≡◌, ℕ, ◌+◌, ◌-◌, ◌<◌, ◌≤◌, min, Bool, true, false, cond, not, eqb, List, ◌++◌, length, take, drop, Some, None, Ok, Err, is_ok, sym, refl, ap, ◌∙◌, arith}
 use Rattle.std.specs.List.{insert, remove, position}
 use Rattle.std.proofs.lemmas.List.{length-take-le, length-append, length-drop, take-append-le, take_at}

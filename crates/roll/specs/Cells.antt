@@ -1,18 +1,18 @@
--- What stands in a book, and what its calls answer and leave.
+-- What stands in a ledger, and what its calls answer and leave.
 use Rattle.std.specs.Prelude.{◌≡◌, ℕ, zero, suc, min, Bool, true, false, cond, List, [], ◌∷◌, length, take, is_ok, Some, None, Ok, Err, Option, Result, nat_lt}
 use Rattle.std.specs.List.{insert}
 use Rattle.roll.specs.Order.{numbered}
-use Rattle.roll.specs.declared.book.Book.{Book}
+use Rattle.roll.specs.declared.ledger.Ledger.{Ledger}
 use Rattle.roll.specs.declared.entry.Entry.{Entry}
 use Rattle.roll.specs.declared.refusal.Refusal.{Refusal}
 use Rattle.roll.specs.declared.refusal.Refusal.TheVariants.{Inadmissible, NumberTaken, RollFull, NumberUnknown}
 
--- what stands in a book
-abbrev pub held : {V : Type 0} → Book V → List (Entry V)
+-- what stands in a ledger
+abbrev pub held : {V : Type 0} → Ledger V → List (Entry V)
 held b = take b.count b.cells.now
 
 -- how many cells it has
-abbrev pub room_of : {V : Type 0} → Book V → ℕ
+abbrev pub room_of : {V : Type 0} → Ledger V → ℕ
 room_of b = length b.cells.now
 
 -- what stands at a place; places count from 1
@@ -36,8 +36,8 @@ tested admitted numbered room last misfit =
 abbrev pub striking : {X : Type 0} → (X → ℕ) → List X → ℕ → Answer
 striking number xs n = cond (numbered number n xs) (Ok tt) (Err NumberUnknown)
 
--- what putting e behind the first i makes of a book, or behind all if there are fewer
-pub record Inserted {V : Type 0} (was : Book V) (i : ℕ) (e : Entry V) (r : Answer) (is : Book V) : Type 0 where
+-- what putting e behind the first i makes of a ledger, or behind all if there are fewer
+pub record Inserted {V : Type 0} (was : Ledger V) (i : ℕ) (e : Entry V) (r : Answer) (is : Ledger V) : Type 0 where
   pub answer : r ≡ cond (nat_lt (length (held was)) (min 120 (room_of was))) (Ok tt) (Err RollFull)
   pub after : is_ok r ≡ true → held is ≡ insert (held was) (min i (length (held was))) e
   pub room : room_of is ≡ room_of was

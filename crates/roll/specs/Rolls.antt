@@ -8,11 +8,11 @@ use Rattle.roll.specs.declared.straight.Roll.{Roll}
 
 -- what stands on a roll
 abbrev pub standing : {M : Type 0} {m : _} → Roll M m → List (Entry M)
-standing r = held r.book
+standing r = held r.ledger
 
 -- how many cells it has
 abbrev pub cells_of : {M : Type 0} {m : _} → Roll M m → ℕ
-cells_of r = room_of r.book
+cells_of r = room_of r.ledger
 
 -- the roll that opening gives, over so many cells
 pub record Opened {M : Type 0} {m : _} (room : ℕ) (r : Roll M m) : Type 0 where

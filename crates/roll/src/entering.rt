@@ -5,8 +5,8 @@ ghost use Rattle.roll.specs.Books.{kind, entering, AlwaysKept, Adds, Takes, Same
 ghost use Rattle.roll.specs.Rolls.{standing, cells_of, Opened, Entered, Struck};
 ghost use Rattle.roll.specs.Totals.{Totals, Ready};
 
-use crate::book::Book;
 use crate::entry::Entry;
+use crate::ledger::Ledger;
 use crate::refusal::Refusal;
 use crate::straight::Roll;
 use crate::values::{compares, place_of, sum};
@@ -17,7 +17,7 @@ pub fn open<'a, M: Measure>(cells: &'a mut [Entry<M>]) -> Roll<'a, M>
     ensures { Opened (length cells.old) result }
 {
     Roll {
-        book: Book::open(cells),
+        ledger: Ledger::open(cells),
     }
 }
 
@@ -26,21 +26,21 @@ impl<'a, M: Measure> Roll<'a, M> {
     pub fn len(&self) -> usize
         ensures { result ≡ length (standing self.now) }
     {
-        self.book.len()
+        self.ledger.len()
     }
 
     // What stands, in place order.
     pub fn entries(&self) -> &[Entry<M>]
         ensures { result.now ≡ standing self.now }
     {
-        self.book.entries()
+        self.ledger.entries()
     }
 
     // What stands at the place, which counts from 1.
     pub fn get(&self, place: usize) -> Option<Entry<M>>
         ensures { result ≡ at (standing self.now) place }
     {
-        self.book.get(place)
+        self.ledger.get(place)
     }
 
     // What the entries that stand come to.
@@ -57,10 +57,10 @@ impl<'a, M: Measure> Roll<'a, M> {
         if !one.value.admitted() {
             return Err(Refusal::Inadmissible);
         }
-        if self.book.has(one.number) {
+        if self.ledger.has(one.number) {
             return Err(Refusal::NumberTaken);
         }
-        if self.book.is_full() {
+        if self.ledger.is_full() {
             return Err(Refusal::RollFull);
         }
         if !compares(self.entries(), one) {
@@ -75,14 +75,14 @@ impl<'a, M: Measure> Roll<'a, M> {
     {
         self.refusal(one)?;
         let place = place_of(self.entries(), one);
-        self.book.insert(place, one)
+        self.ledger.insert(place, one)
     }
 
     // Takes out the entry with the number and closes the gap, unless there is none.
     pub fn strike(&mut self, number: u32) -> Result<(), Refusal>
         ensures { Struck (kind M.algebra M.Measure.row M.span) self.old number result self.new }
     {
-        self.book.strike(number)
+        self.ledger.strike(number)
     }
 }
 

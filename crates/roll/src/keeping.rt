@@ -4,8 +4,8 @@ ghost use Rattle.std.specs.List.{insert, remove, position};
 ghost use Rattle.roll.specs.Order.{numbered, without};
 ghost use Rattle.roll.specs.Cells.{held, room_of, at, striking, Inserted};
 
-use crate::book::Book;
 use crate::entry::Entry;
+use crate::ledger::Ledger;
 use crate::refusal::Refusal;
 
 // Puts the entry at the index, and moves each from there on by one cell; the last is lost.
@@ -34,13 +34,13 @@ fn fill<V: Copy>(cells: &mut [Entry<V>], one: Entry<V>)
     }
 }
 
-impl<'a, V: Copy> Book<'a, V> {
-    // A book in which nothing stands.
-    pub fn open(cells: &'a mut [Entry<V>]) -> Book<'a, V>
+impl<'a, V: Copy> Ledger<'a, V> {
+    // A ledger in which nothing stands.
+    pub fn open(cells: &'a mut [Entry<V>]) -> Ledger<'a, V>
         ensures none { held result ≡ [] }
         ensures room { room_of result ≡ length cells.old }
     {
-        Book { cells, count: 0 }
+        Ledger { cells, count: 0 }
     }
 
     // How many stand.
@@ -114,7 +114,7 @@ impl<'a, V: Copy> Book<'a, V> {
         Ok(())
     }
 
-    // Empties the book, and fills every cell with the entry.
+    // Empties the ledger, and fills every cell with the entry.
     pub fn clear(&mut self, blank: Entry<V>)
         ensures none { held self.new ≡ [] }
         ensures cells { self.new.cells.now ≡ replicate (room_of self.old) blank }

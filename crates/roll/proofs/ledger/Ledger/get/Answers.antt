@@ -2,7 +2,7 @@ use Rattle.std.proofs.Common.{◌≡◌, suc, ap, ◌∙◌, arith}
 use Rattle.std.specs.List.{slice_get}
 use Rattle.roll.specs.Cells.{held, at}
 use Rattle.roll.proofs.Firsts.{got, at_is}
-use Rattle.roll.proofs.book.Book.get.Goals as goal
+use Rattle.roll.proofs.ledger.Ledger.get.Goals as goal
 
 pub returns : goal.returns
 returns g c =

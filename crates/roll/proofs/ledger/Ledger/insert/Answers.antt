@@ -3,7 +3,7 @@ use Rattle.std.proofs.lemmas.Bool.{true≢false, ltb-true, cond-true}
 use Rattle.std.proofs.lemmas.List.{length-take-le}
 use Rattle.roll.specs.Cells.{held, room_of}
 use Rattle.roll.proofs.Calls.{opened, room_kept, has_room}
-use Rattle.roll.proofs.book.Book.insert.Goals as goal
+use Rattle.roll.proofs.ledger.Ledger.insert.Goals as goal
 
 pub returns : goal.returns
 returns g c =

@@ -2,7 +2,7 @@ use Rattle.std.proofs.Common.{drop, sym, refl, ◌∙◌}
 use Rattle.std.proofs.lemmas.Bool.{true≢false}
 use Rattle.roll.specs.Cells.{held}
 use Rattle.roll.proofs.Calls.{strikes_none, strikes_one, closed, room_kept}
-use Rattle.roll.proofs.book.Book.strike.Goals as goal
+use Rattle.roll.proofs.ledger.Ledger.strike.Goals as goal
 
 pub returns-in_default : goal.returns-in_default
 returns-in_default g c =
