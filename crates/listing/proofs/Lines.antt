@@ -14,14 +14,15 @@ use Rattle.crossed.specs.Entries.{zero_entry}
 use Rattle.listing.specs.Text.{line}
 use Rattle.listing.specs.Listing.{numbers, set_line, lines_within}
 
--- one number more
-pub numbers_more : (xs : List Entry) (ps ns : List ℕ) (i p v : ℕ) → i < length ps → i < length ns → p ≡ get_or ps i 0 → v ≡ get_or (map (λ e. e.number) xs) (p - 1) 0 → take i ns ≡ numbers xs (take i ps) → take (i + 1) (set ns i v) ≡ numbers xs (take (i + 1) ps)
-numbers_more xs ps ns i p v here room at is was =
-    let f = λ (q : ℕ). get_or (map (λ e. e.number) xs) (q - 1) 0 in
-    take_more (set ns i v) i 0 (omega (arith, length-set ns i v))
-    ∙ ap₂ (λ l x. l ++ (x ∷ [])) (take-set-le i ns i v (omega arith) ∙ was) (get_or-set_same ns i v 0 room ∙ is ∙ ap f at)
-    ∙ sym (map-append f (take i ps) (get_or ps i 0 ∷ []))
-    ∙ ap (map f) (sym (take_more ps i 0 here))
+-- a set has a number for each place
+pub length-numbers : (xs : List Entry) (ps : List ℕ) → length (numbers xs ps) ≡ length ps
+length-numbers xs ps = length-map ps (λ p. get_or (map (λ e. e.number) xs) (p - 1) 0)
+
+-- the one at an index is that of the place there
+pub number_read : (xs : List Entry) (ps : List ℕ) (i : ℕ) → i < length ps → get_or (map (λ e. e.number) xs) (get_or ps i 0 - 1) 0 ≡ get_or (numbers xs ps) i 0
+number_read xs [] i h = absurd (omega arith)
+number_read xs (p ∷ ps) zero h = refl
+number_read xs (p ∷ ps) (suc i) h = number_read xs ps i (omega arith)
 
 -- the number of the entry at an index, and 0 past the last
 pub number_within : (xs : List Entry) (k : ℕ) → k < length xs → (get_or xs k zero_entry).number ≡ get_or (map (λ e. e.number) xs) k 0
@@ -85,16 +86,16 @@ module _ (xs : List Entry) (t : Trace) (left : ℕ) (a : Answer) (page page' : L
   lines_spent h = ran_lines xs t left ∙ go (run t left 0).end (sym ran.told ∙ h)
     where
       go : (e : End) → told_of e ≡ Spent → follows left xs e (run t left 0).steps (run t left 0).rest ≡ line 80 []
-      go (set_end ps) q = let z : ◌≡◌ {A = ℕ} 0 1 = cc in absurd (omega arith)
+      go (set_end ps) q = cc
       go spent q = refl
-      go finished q = let z : ◌≡◌ {A = ℕ} 0 1 = cc in absurd (omega arith)
+      go finished q = cc
 
   pub lines_finished : a.told ≡ Finished → lines_within left xs t ≡ line 70 []
   lines_finished h = ran_lines xs t left ∙ go (run t left 0).end (sym ran.told ∙ h)
     where
       go : (e : End) → told_of e ≡ Finished → follows left xs e (run t left 0).steps (run t left 0).rest ≡ line 70 []
-      go (set_end ps) q = let z : ◌≡◌ {A = ℕ} 0 1 = cc in absurd (omega arith)
-      go spent q = let z : ◌≡◌ {A = ℕ} 0 1 = cc in absurd (omega arith)
+      go (set_end ps) q = cc
+      go spent q = cc
       go finished q = refl
 
   -- a set of so many places stands at the front of the page
@@ -107,5 +108,5 @@ module _ (xs : List Entry) (t : Trace) (left : ℕ) (a : Answer) (page page' : L
             l ∙ ap (λ r. set_line xs ps ++ lines_within (left - (run t left 0).steps) xs r) (sym ran.rest) ∙ ap₂ (λ f n. set_line xs f ++ lines_within (left - n) xs rest) (sym front) (sym ran.steps),
             subst (λ r. AllByRecursion (λ s. length s ≡ size) (somes r)) (sym ran.rest) s.1,
           )
-      go spent q l p s = let z : ◌≡◌ {A = ℕ} 0 1 = cc in absurd (omega arith)
-      go finished q l p s = let z : ◌≡◌ {A = ℕ} 0 1 = cc in absurd (omega arith)
+      go spent q l p s = cc
+      go finished q l p s = cc

@@ -3,7 +3,7 @@ use Rattle.std.specs.List.{AllByRecursion}
 use Rattle.sets.specs.Trace.{somes}
 use Rattle.exploring.specs.Meaning.{size_of}
 use Rattle.crossing.specs.Meaning.{Keeps, to_come}
-use Rattle.listing.specs.Text.{Puts, Writes}
+use Rattle.listing.specs.Text.{Puts}
 use Rattle.listing.specs.Listing.{lines_within, most_steps}
 use Rattle.listing.proofs.questions.put_sets.Given as goal
 
@@ -14,8 +14,7 @@ invariant-sets l =
     let sized = λ (ps : List ℕ). length ps ≡ size_of s.straight in
     (length l.page ≡ 120) × (size_of l.state.straight ≡ size_of s.straight) × (l.left ≤ most_steps)
     × (Keeps s → AllByRecursion sized (somes (to_come s)) → Keeps l.state × AllByRecursion sized (somes (to_come l.state))
-    × ((pre : List ℕ) × Puts l.initial.out l.at pre (Some l.next) l.out × (pre ++ lines_within l.left l.entries (to_come l.state) ≡ lines_within most_steps l.entries (to_come s))))
-    × Writes l.initial.out l.at (Some l.next) l.out
+    × ((pre : List ℕ) × Puts l.initial.text pre (Some tt) l.text × (pre ++ lines_within l.left l.entries (to_come l.state) ≡ lines_within most_steps l.entries (to_come s))))
 
 abbrev pub decreases-sets : goal.decreases-sets
 decreases-sets l = l.left
