@@ -33,10 +33,11 @@ fn put_on(text: &mut Text, walk: &mut Walk, table: &mut [Ranked]) -> Option<()>
         let Ok(Some(item)) = walk.step(table) else {
             return Some(());
         };
-        if let Some(asked) = question_of(item) {
-            ordinal = ordinal.saturating_add(1);
-            put_question(text, ordinal, &walk.roll, asked, table)?;
-        }
+        let Some(asked) = question_of(item) else {
+            continue;
+        };
+        ordinal = ordinal.saturating_add(1);
+        put_question(text, ordinal, &walk.roll, asked, table)?;
     }
 }
 
@@ -91,11 +92,9 @@ pub fn list(file: &[u8], out: &mut [u8]) -> Result<usize, Refusal>
     let mut text = Text::new(out);
     let put = put_listing(&mut text, file, &mut cells, &mut table);
     let n = text.len();
-    match put {
-        Some(()) => Ok(n),
-        None => {
-            blank(out);
-            Err(Refusal::TooLong)
-        }
+    if put.is_none() {
+        blank(out);
+        return Err(Refusal::TooLong);
     }
+    Ok(n)
 }
