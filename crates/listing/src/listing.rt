@@ -92,9 +92,9 @@ pub fn list(file: &[u8], out: &mut [u8]) -> Result<usize, Refusal>
     let mut text = Text::new(out);
     let put = put_listing(&mut text, file, &mut cells, &mut table);
     let n = text.len();
-    if put.is_none() {
+    let Some(()) = put else {
         blank(out);
         return Err(Refusal::TooLong);
-    }
+    };
     Ok(n)
 }

@@ -73,16 +73,18 @@ impl<'a> Walk<'a> {
         let Some(item) = reader.next()? else {
             return Ok(None);
         };
-        attempt(&mut self.roll, item, table)
-            .map(|()| Some(item))
-            .map_err(|refusal| Fault::new(refusal, place, is_question(item)))
+        // Kept: of a fault that a closure of `map_err` makes, the proof learns nothing that it can cite.
+        match attempt(&mut self.roll, item, table) {
+            Ok(()) => Ok(Some(item)),
+            Err(refusal) => Err(Fault::new(refusal, place, is_question(item))),
+        }
     }
 
     // The first fault of the records that are left, those of questions included.
     pub(crate) fn faults(&mut self, table: &[Ranked]) -> Result<(), Fault>
         ensures { result ≡ fault_in (lines_left (length table.now) self.old 0) }
     {
-        'records: while self.step(table)?.is_some() {}
+        'records: while let Some(_) = self.step(table)? {}
         Ok(())
     }
 }

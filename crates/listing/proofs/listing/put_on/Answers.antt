@@ -22,8 +22,8 @@ returns-in_err-put_question c = λ bs sound whole.
     subst (λ a. Puts c.args.text.now bs a e) (sym none)
     (left_stop t l.walk l.ordinal c.args.text.now l.text bs (l.invariant.3 bs sound whole) r is (subst (λ n. Takes n l.walk r is) l.invariant.1 takes) q c.in-Some.ensures e puts)
 
-pub records-preserved-in-Continue-1 : goal.records-preserved-in-Continue-1
-records-preserved-in-Continue-1 c =
+pub records-preserved : goal.records-preserved
+records-preserved c =
     let l = c.records in
     let r = plain c.in-Ok-Some.item in
     let is = c.step.new.self in
