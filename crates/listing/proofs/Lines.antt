@@ -24,15 +24,6 @@ number_read xs [] i h = absurd (omega arith)
 number_read xs (p ∷ ps) zero h = refl
 number_read xs (p ∷ ps) (suc i) h = number_read xs ps i (omega arith)
 
--- the number of the entry at an index, and 0 past the last
-pub number_within : (xs : List Entry) (k : ℕ) → k < length xs → (get_or xs k zero_entry).number ≡ get_or (map (λ e. e.number) xs) k 0
-number_within [] k h = absurd (omega arith)
-number_within (x ∷ xs) zero h = refl
-number_within (x ∷ xs) (suc k) h = number_within xs k (omega arith)
-
-pub number_past : (xs : List Entry) (k : ℕ) → length xs ≤ k → 0 ≡ get_or (map (λ e. e.number) xs) k 0
-number_past xs k h = sym (get_or_past (map (λ e. e.number) xs) k 0 (omega (arith, length-map xs (λ e. e.number))))
-
 shift : (a b : ℕ) → leb (suc a) (suc b) ≡ leb a b
 shift a b = grind (arith, nat_tests)
 
@@ -99,12 +90,12 @@ module _ (xs : List Entry) (t : Trace) (left : ℕ) (a : Answer) (page page' : L
       go finished q = refl
 
   -- a set of so many places stands at the front of the page
-  pub lines-set : (size : ℕ) → a.told ≡ Set → AllByRecursion (λ s. length s ≡ size) (somes t) → (lines_within left xs t ≡ set_line xs (take size page') ++ lines_within (left - a.steps) xs rest) × AllByRecursion (λ s. length s ≡ size) (somes rest)
-  lines-set size h sized = go (run t left 0).end (sym ran.told ∙ h) (ran_lines xs t left) ran.page_is (run_holds (λ s. length s ≡ size) t left 0 sized)
+  pub lines-set : (k size : ℕ) → k ≡ size → a.told ≡ Set → AllByRecursion (λ s. length s ≡ size) (somes t) → (lines_within left xs t ≡ set_line xs (take k page') ++ lines_within (left - a.steps) xs rest) × AllByRecursion (λ s. length s ≡ size) (somes rest)
+  lines-set k size same h sized = go (run t left 0).end (sym ran.told ∙ h) (ran_lines xs t left) ran.page_is (run_holds (λ s. length s ≡ size) t left 0 sized)
     where
-      go : (e : End) → told_of e ≡ Set → lines_within left xs t ≡ follows left xs e (run t left 0).steps (run t left 0).rest → page' ≡ page_of e page → HoldsOn (λ s. length s ≡ size) e (run t left 0).rest → (lines_within left xs t ≡ set_line xs (take size page') ++ lines_within (left - a.steps) xs rest) × AllByRecursion (λ s. length s ≡ size) (somes rest)
+      go : (e : End) → told_of e ≡ Set → lines_within left xs t ≡ follows left xs e (run t left 0).steps (run t left 0).rest → page' ≡ page_of e page → HoldsOn (λ s. length s ≡ size) e (run t left 0).rest → (lines_within left xs t ≡ set_line xs (take k page') ++ lines_within (left - a.steps) xs rest) × AllByRecursion (λ s. length s ≡ size) (somes rest)
       go (set_end ps) q l p s =
-          let front : take size page' ≡ ps = ap (take size) p ∙ take_at ps (drop (length ps) page) size s.0 in (
+          let front : take k page' ≡ ps = ap (take k) p ∙ take_at ps (drop (length ps) page) k (s.0 ∙ sym same) in (
             l ∙ ap (λ r. set_line xs ps ++ lines_within (left - (run t left 0).steps) xs r) (sym ran.rest) ∙ ap₂ (λ f n. set_line xs f ++ lines_within (left - n) xs rest) (sym front) (sym ran.steps),
             subst (λ r. AllByRecursion (λ s. length s ≡ size) (somes r)) (sym ran.rest) s.1,
           )

@@ -25,11 +25,7 @@ fn number_at(entries: &[Entry], place: u16) -> usize
     ensures { result ≡ slice_index (map (λ e. e.number) entries.now) (place - 1) }
 {
     let index = (place as usize).saturating_sub(1);
-    if index < entries.len() {
-        entries[index].number as usize
-    } else {
-        0
-    }
+    entries.get(index).map_or(0, |one| one.number as usize)
 }
 
 // A line for a set: the numbers of its entries.
@@ -58,7 +54,7 @@ fn put_sets(text: &mut Text, entries: &[Entry], state: &mut Search) -> Option<()
         match answer.told {
             Told::Spent => return text.put(b"P\n"),
             Told::Finished => return text.put(b"F\n"),
-            Told::Set => put_set(text, entries, &page[0..size])?,
+            Told::Set => put_set(text, entries, &page[..size])?,
         }
     }
 }

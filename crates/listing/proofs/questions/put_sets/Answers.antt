@@ -1,5 +1,4 @@
-use Rattle.std.proofs.Common.{◌≡◌, ◌-◌, [], ◌∷◌, ◌++◌, take, None, sym, subst, ap, ◌∙◌, arith, rules}
-use native.Mathlib.Nat.{sub-zero}
+use Rattle.std.proofs.Common.{◌≡◌, take, None, sym, subst, ◌∙◌, arith, rules}
 use Rattle.exploring.specs.Meaning.{size_of}
 use Rattle.crossing.specs.Meaning.{to_come}
 use Rattle.listing.specs.Text.{Puts, line}
@@ -35,12 +34,10 @@ returns-in_err-put_set-in-Set c = λ keeps sized.
     let t = to_come l.state in
     let page = c.advance.new.page in
     let size = c.places-size.result in
-    let n : size_of c.args.state.now.straight ≡ size - 0 = sym (sub-zero size ∙ c.places-size.ensures) in
-    let found = lines-set xs t l.left c.in-Ok.answer l.page page (to_come c.advance.new.self) (c.in-Ok.ensures.is inv.0) (size_of c.args.state.now.straight) c.in-Set.is inv.1 in
-    let first = found.0 ∙ ap (λ k. set_line xs (take k page) ++ lines_within (l.left - c.in-Ok.answer.steps) xs (to_come c.advance.new.self)) n in
+    let found = lines-set xs t l.left c.in-Ok.answer l.page page (to_come c.advance.new.self) (c.in-Ok.ensures.is inv.0) size (size_of c.args.state.now.straight) c.places-size.ensures c.in-Set.is inv.1 in
     let none : c.from_residual.result ≡ None = search rules in
     subst (λ r. Puts c.args.text.now (sets_lines xs (to_come c.args.state.now)) r c.put_set.new.text) (sym none)
-    (puts_stop c.args.text.now l.text c.put_set.new.text inv.2.0 (lines_within l.left xs t) _ inv.2.1 inv.2.2 (set_line xs (take (size - 0) page)) _ first c.in_err-put_set-in-Set.ensures)
+    (puts_stop c.args.text.now l.text c.put_set.new.text inv.2.0 (lines_within l.left xs t) _ inv.2.1 inv.2.2 (set_line xs (take size page)) _ found.0 c.in_err-put_set-in-Set.ensures)
 
 pub sets-preserved : goal.sets-preserved
 sets-preserved c =
@@ -50,17 +47,15 @@ sets-preserved c =
     let xs = c.args.entries.now in
     let t = to_come l.state in
     let page = c.advance.new.page in
-    let size = c.places-size.result in
-    let n : size_of s.straight ≡ size - 0 = sym (sub-zero size ∙ c.places-size.ensures) in (
+    let size = c.places-size.result in (
       c.advance.auto.page ∙ l.invariant.0,
       told.same.size_same ∙ l.invariant.1,
       omega (arith, l.invariant.2),
       λ keeps sized.
           let inv = l.invariant.3 keeps sized in
-          let found = lines-set xs t l.left c.in-Ok.answer l.page page (to_come c.advance.new.self) (told.is inv.0) (size_of s.straight) c.in-Set.is inv.1 in
-          let first = found.0 ∙ ap (λ k. set_line xs (take k page) ++ lines_within (l.left - c.in-Ok.answer.steps) xs (to_come c.advance.new.self)) n in (
+          let found = lines-set xs t l.left c.in-Ok.answer l.page page (to_come c.advance.new.self) (told.is inv.0) size (size_of s.straight) c.places-size.ensures c.in-Set.is inv.1 in (
             told.kept inv.0,
             found.1,
-            puts_on c.args.text.now l.text c.put_set.new.text inv.2.0 (lines_within l.left xs t) _ inv.2.1 inv.2.2 (set_line xs (take (size - 0) page)) _ first c.in_ok-put_set-in-Set.ensures,
+            puts_on c.args.text.now l.text c.put_set.new.text inv.2.0 (lines_within l.left xs t) _ inv.2.1 inv.2.2 (set_line xs (take size page)) _ found.0 c.in_ok-put_set-in-Set.ensures,
           ),
     )
