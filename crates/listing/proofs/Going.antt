@@ -11,16 +11,14 @@ use Rattle.crossed.specs.Books.{if_ok}
 use Rattle.crossing.specs.Asking.{asking}
 use Rattle.records.specs.declared.reader.Fault.{Fault}
 use Rattle.records.specs.Bytes.{asked_of}
-use Rattle.records.specs.declared.reader.Reader.{Reader}
-use Rattle.records.specs.declared.reader.Record.{Record}
-use Rattle.records.specs.Records.{Rec, heading, entering, striking, question, fault_of, size_of, parsed, located, some, next_of, moved, told, Behind, ReadNext}
+use Rattle.records.specs.Records.{Rec, heading, entering, striking, question, fault_of, size_of, parsed, located, some, next_of}
 use Rattle.records.proofs.Nexts.{next_at}
-use Rattle.rollfile.specs.Files.{then, headed, opened}
-use Rattle.rollfile.proofs.Runs.{parsed_fits, next_none, first_behind}
+use Rattle.rollfile.specs.Files.{then}
+use Rattle.rollfile.proofs.Runs.{parsed_fits, next_none}
 use Rattle.crossed.specs.Rolls.{standing, room_of}
 use Rattle.listing.specs.declared.walk.Walk.{Walk}
 use Rattle.listing.specs.Walk.{lines_left, Takes}
-use Rattle.listing.specs.Listing.{Tried, question_in, is_question, faulted, record_lines, question_lines, asked_so_far, before, tried, lines, lines_of, fault_in}
+use Rattle.listing.specs.Listing.{Tried, question_in, is_question, faulted, record_lines, question_lines, asked_so_far, before, tried, lines, fault_in}
 
 module _ (d : Columns) (room table : ℕ) where
   -- the bytes of a body are passed over
@@ -83,11 +81,8 @@ module _ (d : Columns) (room table : ℕ) where
   fault_before l (Ok x) = refl
   fault_before l (Err f) = refl
 
-  -- the four ways in which a record ends
+  -- how a record ends
   module _ (bs : List ℕ) (xs : List Entry) (k at : ℕ) (positive : 0 < at) (short : length bs ≤ 65536) where
-    pub step_fault : (f : Fault) → Err f ≡ next_of bs at → lines d room table (drop at bs) xs k 0 at ≡ Err f
-    step_fault f q = lines_step bs xs k at positive short ∙ sym (ap (continues bs xs k at) q)
-
     pub step_end : Ok None ≡ next_of bs at → lines d room table (drop at bs) xs k 0 at ≡ Ok []
     step_end q = lines_step bs xs k at positive short ∙ sym (ap (continues bs xs k at) q)
 
@@ -108,13 +103,6 @@ question_asked k xs (heading b) q e = cc
 question_asked k xs (entering b) q e = cc
 question_asked k xs (striking b) q e = cc
 question_asked k xs (question b) q e = let same : q ≡ asked_of b = cc in (ap (question_lines (suc k) xs) (sym same), refl)
-
--- one that asks none
-pub asks_none : (k : ℕ) (xs : List Entry) (r : Rec) → None ≡ question_in r → (record_lines k xs r ≡ []) × (asked_so_far k r ≡ k)
-asks_none k xs (heading b) e = (refl, refl)
-asks_none k xs (entering b) e = (refl, refl)
-asks_none k xs (striking b) e = (refl, refl)
-asks_none k xs (question b) e = cc
 
 module _ (d : Columns) (table : ℕ) (xs ys : List Entry) where
   if_accepted : (a : Result (Unit {0}) Refusal) → Ok ys ≡ if_ok a xs → (a ≡ Ok tt) × (ys ≡ xs)
@@ -162,25 +150,7 @@ module _ (t : ℕ) (was is : Walk) (r : Rec) where
       ∙ fault_before is.roll.columns (room_of is.roll) t (record_lines 0 (standing is.roll) r) (lines_left t is (asked_so_far 0 r))
       ∙ fault_any is.roll.columns (room_of is.roll) t (drop is.reader.place is.reader.bytes.now) (standing is.roll) (asked_so_far 0 r) 0 0 is.reader.place)
 
--- a file that says its columns has a first record, and the reader stands behind it
-behind_first : (bs : List ℕ) (d : Columns) (is : Reader) (r : Result (Option Rec) Fault) → Ok d ≡ opened bs → r ≡ next_of bs 0 → is.place ≡ moved bs 0 r → is.bytes.now ≡ bs → Behind is × (is.place ≡ 2)
-behind_first bs d is (Err f) e q at file = cc (e ∙ ap (λ x. then x headed) (sym q))
-behind_first bs d is (Ok o) e q at file = first_behind bs is o (sym q) at file
-
-pub behind_heading : (bs : List ℕ) (d : Columns) (was is : Reader) (r : Result (Option Record) Fault) → Ok d ≡ opened bs → was.bytes.now ≡ bs → was.place ≡ 0 → ReadNext was r is → Behind is × (is.place ≡ 2)
-behind_heading bs d was is r e file start next =
-    behind_first bs d is (told r) e (next.answer ∙ ap (λ b. next_of b was.place) file ∙ ap (next_of bs) start)
-    (next.place ∙ ap (λ b. moved b was.place (told r)) file ∙ ap (λ n. moved bs n (told r)) start) (next.file ∙ file)
-
--- what a file gives, by its columns
-pub lines_of_is : (room table : ℕ) (bs : List ℕ) (d : Columns) → Ok d ≡ opened bs → lines d room table (drop 2 bs) [] 0 0 2 ≡ lines_of room table bs
-lines_of_is room table bs d e = ap (λ x. then x (λ c. lines c room table (drop 2 bs) [] 0 0 2)) e
-
--- without a fault there are lines, and with one there are none
+-- without a fault there are lines
 pub has_lines : (x : Result (List ℕ) Fault) → Ok tt ≡ fault_in x → (text : List ℕ) × (x ≡ Ok text)
 has_lines (Ok text) e = (text, refl)
 has_lines (Err f) e = cc
-
-pub has_fault : (x : Result (List ℕ) Fault) (f : Fault) → Err f ≡ fault_in x → x ≡ Err f
-has_fault (Ok text) f e = cc
-has_fault (Err g) f e = cc

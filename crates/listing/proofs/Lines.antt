@@ -1,7 +1,7 @@
 -- The lines of a set's numbers, and the lines of the sets that advances hand out.
-use Rattle.std.proofs.Common.{◌≡◌, ℕ, zero, suc, ◌+◌, ◌-◌, ◌<◌, ◌≤◌, false, cond, leb, List, [], ◌∷◌, ◌++◌, map, length, get_or, take, drop, set, Some, None, sym, refl, ap, ◌∙◌, subst, ap₂, add-zero, arith}
+use Rattle.std.proofs.Common.{◌≡◌, ℕ, zero, suc, ◌+◌, ◌-◌, ◌<◌, false, cond, leb, List, [], ◌∷◌, ◌++◌, map, length, get_or, take, drop, Some, None, sym, refl, ap, ◌∙◌, subst, ap₂, add-zero, arith}
 use Rattle.std.specs.List.{flat_map, AllByRecursion}
-use Rattle.std.proofs.lemmas.List.{append_assoc, take_more, take-set-le, get_or-set_same, get_or_past, length-map, length-set, map-append, take_at}
+use Rattle.std.proofs.lemmas.List.{append_assoc, length-map, take_at}
 use Rattle.std.proofs.lemmas.Bool.{le-leb}
 use Rattle.std.proofs.lemmas.Bool.Decides.{nat_tests}
 use Rattle.sets.specs.Trace.{Trace, somes}
@@ -10,7 +10,6 @@ use Rattle.exploring.specs.declared.state.Answer.{Answer}
 use Rattle.exploring.specs.declared.state.Told.TheVariants.{Set, Spent, Finished}
 use Rattle.exploring.specs.Meaning.{told_of, Ran}
 use Rattle.crossed.specs.declared.entries.Entry.{Entry}
-use Rattle.crossed.specs.Entries.{zero_entry}
 use Rattle.listing.specs.Text.{line}
 use Rattle.listing.specs.Listing.{numbers, set_line, lines_within}
 

@@ -11,7 +11,7 @@ use Rattle.listing.specs.Text.{Puts}
 use Rattle.listing.specs.Listing.{question_in, question_lines, record_lines, asked_so_far, before}
 use Rattle.listing.specs.Walk.{lines_left, Takes, Steps}
 use Rattle.listing.proofs.Written.{puts_stop, puts_on}
-use Rattle.listing.proofs.Going.{question_asked, asks_none}
+use Rattle.listing.proofs.Going.{question_asked}
 
 -- what is left of the lines is in order, and makes the text with what is written
 abbrev pub Left : ℕ → Walk → ℕ → Text → Text → List ℕ → Type 0
@@ -34,12 +34,6 @@ module _ (t : ℕ) (w : Walk) (k : ℕ) (a b : Text) (text : List ℕ) (left : L
   module _ (r : Rec) (is : Walk) (takes : Takes t w r is) where
     behind : (more : List ℕ) × (lines_left t is (asked_so_far k r) ≡ Ok more) × (left.2.0 ≡ record_lines k (standing is.roll) r ++ more)
     behind = before_ok (record_lines k (standing is.roll) r) left.2.0 (lines_left t is (asked_so_far k r)) (sym (takes.lines k) ∙ left.2.1)
-
-    -- a record without lines
-    pub left_none : None ≡ question_in r → Left t is k a b text
-    left_none without =
-        let n = asks_none k (standing is.roll) r without in
-        (left.0, left.1, (behind.0, ap (lines_left t is) (sym n.1) ∙ behind.1, ap (λ l. left.0 ++ l) (sym (behind.2 ∙ ap (λ l. l ++ behind.0) n.0)) ∙ left.2.2))
 
     module _ (asked : Question) (some : Some asked ≡ question_in r) where
       lined : left.2.0 ≡ question_lines (suc k) (standing is.roll) asked ++ behind.0

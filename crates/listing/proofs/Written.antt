@@ -1,12 +1,8 @@
 -- Bytes written over bytes, one piece after another.
-use Rattle.std.proofs.Common.{◌≡◌, ℕ, zero, suc, ◌+◌, ◌<◌, ◌≤◌, Bool, true, false, cond, ltb, List, [], ◌∷◌, ◌++◌, length, get_or, take, drop, set, replicate, Some, None, Ok, Err, Option, Result, sym, refl, ap, ◌∙◌, subst, arith}
+use Rattle.std.proofs.Common.{◌≡◌, ℕ, ◌+◌, ◌<◌, List, [], ◌∷◌, ◌++◌, length, get_or, take, drop, Some, None, Option, sym, refl, ap, ◌∙◌, subst, arith}
 use Rattle.std.specs.List.{flat_map}
 use Rattle.std.proofs.lemmas.List.{append_assoc, length-append, take-append-drop, take_more, flat_map_more}
-use Rattle.std.proofs.lemmas.Bool.{cond-true, cond-false, lt-ltb, le-ltb}
-use Rattle.std.proofs.lemmas.Bool.Decides.{nat_tests}
-use Rattle.roll.specs.declared.refusal.Refusal.{Refusal}
-use Rattle.roll.specs.declared.refusal.Refusal.TheVariants.{TooLong}
-use Rattle.rollfile.specs.Writing.{over, written, output_after}
+use Rattle.rollfile.specs.Writing.{over}
 use Rattle.rollfile.proofs.Overs.{over-over}
 use Rattle.listing.specs.Text.{field, line, Puts}
 use Rattle.listing.specs.declared.text.Text.{Text}
@@ -30,12 +26,6 @@ puts_then a b c xs ys (Some u) p q = record {
 -- where the first piece does not fit, the whole does not
 pub puts_short : (a b : Text) (xs ys : List ℕ) → Puts a xs None b → Puts a (xs ++ ys) None b
 puts_short a b xs ys p = record { lent = p.lent; length_same = p.length_same; written = omega (arith, length-append xs ys, p.written) }
-
--- nothing is written
-pub puts_none : (a : Text) → Puts a [] (Some tt) a
-puts_none a =
-    let z : a.at ≡ a.at + 0 = omega arith in
-    record { lent = refl; length_same = refl; written = (z, sym (take-append-drop a.at a.out.now) ∙ ap (λ n. take a.at a.out.now ++ drop n a.out.now) z) }
 
 -- a line of two numbers, piece by piece
 pub line_of_two : (letter m n : ℕ) → letter ∷ (field m ++ (field n ++ 10 ∷ [])) ≡ line letter (m ∷ n ∷ [])
@@ -73,25 +63,3 @@ module _ (a b c : Text) (pre left whole : List ℕ) (so_far : Puts a pre (Some t
     -- one piece more, before others
     pub puts_on : Puts b one (Some tt) c → (now : List ℕ) × Puts a now (Some tt) c × (now ++ more ≡ whole)
     puts_on q = (pre ++ one, puts_then a b c pre one (Some tt) so_far q, append_assoc pre one more ∙ ap (λ l. pre ++ l) (sym next) ∙ all)
-
--- a whole text that fits, and one that does not, over an output where nothing was written
-pub fits_whole : (a b : Text) (text : List ℕ) → a.at ≡ 0 → Puts a text (Some tt) b → (Ok b.at ≡ written a.out.now text) × (b.out.now ≡ output_after a.out.now text)
-fits_whole a b text start p =
-    let room = le-ltb (length a.out.now) (length text) (omega (arith, p.written.0, b.within, p.length_same)) in
-    (ap Ok (omega (arith, p.written.0)) ∙ sym (cond-false _ _ _ room), p.written.1 ∙ ap (λ n. over a.out.now n text) start ∙ sym (cond-false _ _ _ room))
-
-pub short_whole : (a b : Text) (text : List ℕ) → a.at ≡ 0 → Puts a text None b → (Err TooLong ≡ written a.out.now text) × (replicate (length a.out.now) 0 ≡ output_after a.out.now text)
-short_whole a b text start p =
-    let short = lt-ltb (length a.out.now) (length text) (omega (arith, p.written)) in
-    (sym (cond-true _ _ _ short), sym (cond-true _ _ _ short))
-
--- what is told is within the output, or the one refusal
-pub written_within : (out text : List ℕ) (n : ℕ) → Ok n ≡ written out text → n ≤ length out
-written_within out text n e = grind (arith, nat_tests)
-
-pub written_refusal : (out text : List ℕ) (r : Refusal) → Err r ≡ written out text → r ≡ TooLong
-written_refusal out text r e = go (ltb (length out) (length text)) e
-  where
-    go : (b : Bool) → ◌≡◌ {A = Result ℕ Refusal} (Err r) (cond b (Err TooLong) (Ok (length text))) → r ≡ TooLong
-    go true q = cc
-    go false q = let z : ◌≡◌ {A = ℕ} 0 1 = cc in absurd (omega arith)

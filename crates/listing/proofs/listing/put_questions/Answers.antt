@@ -1,4 +1,4 @@
-use Rattle.std.proofs.Common.{length, sym, ◌∙◌}
+use Rattle.std.proofs.Common.{length, ◌∙◌}
 use Rattle.listing.proofs.listing.put_questions.Goals as goal
 
 pub returns : goal.returns

@@ -1,5 +1,4 @@
 use Rattle.std.proofs.Common.{◌≡◌, ◌<◌, [], ◌∷◌, ◌++◌, length, Some, None, sym, subst, ◌∙◌, arith, take_all, rules}
-use Rattle.std.proofs.lemmas.List.{length-map}
 use Rattle.std.specs.List.{flat_map}
 use Rattle.listing.specs.Text.{field, Puts}
 use Rattle.listing.specs.Listing.{numbers}

@@ -1,7 +1,7 @@
 use Rattle.std.proofs.Common.{◌≡◌, take, None, sym, subst, ◌∙◌, arith, rules}
 use Rattle.exploring.specs.Meaning.{size_of}
 use Rattle.crossing.specs.Meaning.{to_come}
-use Rattle.listing.specs.Text.{Puts, line}
+use Rattle.listing.specs.Text.{Puts}
 use Rattle.listing.specs.Listing.{set_line, lines_within, sets_lines}
 use Rattle.listing.proofs.Written.{puts_last, puts_stop, puts_on}
 use Rattle.listing.proofs.Lines.{lines_spent, lines_finished, lines-set}

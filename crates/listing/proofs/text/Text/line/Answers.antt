@@ -1,4 +1,4 @@
-use Rattle.std.proofs.Common.{[], ◌∷◌, ◌++◌, Some, subst}
+use Rattle.std.proofs.Common.{[], ◌∷◌, ◌++◌, subst}
 use Rattle.listing.specs.Text.{field, Puts}
 use Rattle.listing.proofs.Written.{puts_then, line_of_two}
 use Rattle.listing.proofs.text.Text.line.Goals as goal
