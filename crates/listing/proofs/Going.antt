@@ -125,10 +125,6 @@ module _ (d : Columns) (table : ℕ) (xs ys : List Entry) where
       let both = if_accepted (asking d (length xs) (asked_of b) table) t in
       ap (λ p. asking d (length ys) p table) same ∙ ap (λ zs. asking d (length zs) (asked_of b) table) both.1 ∙ both.0
 
--- lines in one place are lines in another
-pub lines_at : (d d' : Columns) (room room' table : ℕ) (bs bs' : List ℕ) (xs xs' : List Entry) (k at at' : ℕ) → d' ≡ d → room' ≡ room → bs' ≡ bs → xs' ≡ xs → at' ≡ at → lines d' room' table (drop at' bs') xs' k 0 at' ≡ lines d room table (drop at bs) xs k 0 at
-lines_at d d' room room' table bs bs' xs xs' k at at' a b c e f = cc
-
 module _ (t : ℕ) (was is : Walk) (r : Rec) where
   -- a record that is read and is not at fault
   pub takes : Ok (Some r) ≡ next_of was.reader.bytes.now was.reader.place → is.reader.place ≡ was.reader.place + 1 + size_of (get_or was.reader.bytes.now was.reader.place 0) → is.reader.bytes.now ≡ was.reader.bytes.now → Tried was.roll t r (Ok tt) is.roll → Takes t was r is
@@ -137,9 +133,10 @@ module _ (t : ℕ) (was is : Walk) (r : Rec) where
     place = omega arith;
     sound = done.sound;
     lines = λ k.
+        let now : lines was.roll.columns (room_of was.roll) t (drop is.reader.place was.reader.bytes.now) (standing is.roll) (asked_so_far k r) 0 is.reader.place ≡ lines_left t is (asked_so_far k r) = cc in
         step_on was.roll.columns (room_of was.roll) t was.reader.bytes.now (standing was.roll) k was.reader.place was.positive was.short r (standing is.roll) is.reader.place q moves done.answer
         ∙ ap (λ l. before l (lines was.roll.columns (room_of was.roll) t (drop is.reader.place was.reader.bytes.now) (standing is.roll) (asked_so_far k r) 0 is.reader.place)) (kept_by was.roll.columns t (standing was.roll) (standing is.roll) (room_of was.roll) k r done.answer)
-        ∙ ap (before (record_lines k (standing is.roll) r)) (sym (lines_at was.roll.columns is.roll.columns (room_of was.roll) (room_of is.roll) t was.reader.bytes.now is.reader.bytes.now (standing is.roll) (standing is.roll) (asked_so_far k r) is.reader.place is.reader.place done.columns done.room file refl refl));
+        ∙ ap (before (record_lines k (standing is.roll) r)) now;
     accepted = λ p e. ap (λ d. asking d (length (standing is.roll)) p t) done.columns ∙ accepted_by was.roll.columns t (standing was.roll) (standing is.roll) (room_of was.roll) r p e done.answer;
   }
 

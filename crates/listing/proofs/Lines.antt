@@ -1,7 +1,8 @@
 -- The lines of a set's numbers, and the lines of the sets that advances hand out.
 use Rattle.std.proofs.Common.{◌≡◌, ℕ, zero, suc, ◌+◌, ◌-◌, ◌<◌, false, cond, leb, List, [], ◌∷◌, ◌++◌, map, length, get_or, take, drop, Some, None, sym, refl, ap, ◌∙◌, subst, ap₂, add-zero, arith}
 use Rattle.std.specs.List.{flat_map, AllByRecursion}
-use Rattle.std.proofs.lemmas.List.{append_assoc, length-map, take_at}
+use Rattle.std.proofs.Math.Seq.{take-nil}
+use Rattle.std.proofs.lemmas.List.{get_or-map, append_assoc, length-map, take_at}
 use Rattle.std.proofs.lemmas.Bool.{le-leb}
 use Rattle.std.proofs.lemmas.Bool.Decides.{nat_tests}
 use Rattle.sets.specs.Trace.{Trace, somes}
@@ -19,9 +20,7 @@ length-numbers xs ps = length-map ps (λ p. get_or (map (λ e. e.number) xs) (p 
 
 -- the one at an index is that of the place there
 pub number_read : (xs : List Entry) (ps : List ℕ) (i : ℕ) → i < length ps → get_or (map (λ e. e.number) xs) (get_or ps i 0 - 1) 0 ≡ get_or (numbers xs ps) i 0
-number_read xs [] i h = absurd (omega arith)
-number_read xs (p ∷ ps) zero h = refl
-number_read xs (p ∷ ps) (suc i) h = number_read xs ps i (omega arith)
+number_read xs ps i h = sym (get_or-map (λ p. get_or (map (λ e. e.number) xs) (p - 1) 0) ps i 0 0 h)
 
 shift : (a b : ℕ) → leb (suc a) (suc b) ≡ leb a b
 shift a b = grind (arith, nat_tests)
@@ -35,12 +34,8 @@ follows left xs (set_end ps) n rest = set_line xs ps ++ lines_within (left - n) 
 follows left xs spent n rest = line 80 []
 follows left xs finished n rest = line 70 []
 
-none_left : (left : ℕ) → somes (take left []) ≡ []
-none_left zero = refl
-none_left (suc left) = refl
-
 run-lines : (xs : List Entry) (t : Trace) (left k : ℕ) → lines_within left xs t ≡ follows (left + k) xs (run t left k).end (run t left k).steps (run t left k).rest
-run-lines xs [] left k = ap₂ (λ s b. flat_map (set_line xs) s ++ line (cond b 70 80) []) (none_left left) (le-leb 0 left (omega arith))
+run-lines xs [] left k = ap₂ (λ s b. flat_map (set_line xs) s ++ line (cond b 70 80) []) (ap somes (take-nil left)) (le-leb 0 left (omega arith))
 run-lines xs (None ∷ t) zero k = ap (λ b. line (cond b 70 80) []) (never (length t))
 run-lines xs (Some ps ∷ t) zero k = ap (λ b. line (cond b 70 80) []) (never (length t))
 run-lines xs (None ∷ t) (suc left) k =

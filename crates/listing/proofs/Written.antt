@@ -1,6 +1,7 @@
 -- Bytes written over bytes, one piece after another.
-use Rattle.std.proofs.Common.{◌≡◌, ℕ, ◌+◌, ◌<◌, List, [], ◌∷◌, ◌++◌, length, get_or, take, drop, Some, None, Option, sym, refl, ap, ◌∙◌, subst, arith}
+use Rattle.std.proofs.Common.{◌≡◌, ℕ, ◌+◌, ◌<◌, List, [], ◌∷◌, ◌++◌, length, get_or, take, drop, Some, None, Option, sym, ap, ◌∙◌, subst, arith}
 use Rattle.std.specs.List.{flat_map}
+use Rattle.std.proofs.lemmas.Grind.{flat_map-append}
 use Rattle.std.proofs.lemmas.List.{append_assoc, length-append, take-append-drop, take_more, flat_map_more}
 use Rattle.rollfile.specs.Writing.{over}
 use Rattle.rollfile.proofs.Overs.{over-over}
@@ -31,10 +32,6 @@ puts_short a b xs ys p = record { lent = p.lent; length_same = p.length_same; wr
 pub line_of_two : (letter m n : ℕ) → letter ∷ (field m ++ (field n ++ 10 ∷ [])) ≡ line letter (m ∷ n ∷ [])
 line_of_two letter m n = ap (λ z. letter ∷ z) (sym (append_assoc (field m) (field n ++ []) (10 ∷ []) ∙ ap (λ z. field m ++ z) (append_assoc (field n) [] (10 ∷ []))))
 
-flat_map-append : (xs ys : List ℕ) → flat_map field (xs ++ ys) ≡ flat_map field xs ++ flat_map field ys
-flat_map-append [] ys = refl
-flat_map-append (x ∷ xs) ys = ap (λ t. field x ++ t) (flat_map-append xs ys) ∙ sym (append_assoc (field x) (flat_map field xs) (flat_map field ys))
-
 module _ (a b c : Text) (xs : List ℕ) (i x : ℕ) (within : i < length xs) (read : x ≡ get_or xs i 0) (so_far : Puts a (flat_map field (take i xs)) (Some tt) b) where
   more : flat_map field (take i xs) ++ field x ≡ flat_map field (take (i + 1) xs)
   more = flat_map_more field [] (take i xs) x ∙ ap (flat_map field) (ap (λ z. take i xs ++ z ∷ []) read ∙ sym (take_more xs i 0 within))
@@ -46,7 +43,7 @@ module _ (a b c : Text) (xs : List ℕ) (i x : ℕ) (within : i < length xs) (re
   -- one that does not fit: nor do all of them
   pub puts_cut : Puts b (field x) None c → Puts a (flat_map field xs) None c
   puts_cut q =
-      let whole : flat_map field (take (i + 1) xs) ++ flat_map field (drop (i + 1) xs) ≡ flat_map field xs = sym (flat_map-append (take (i + 1) xs) (drop (i + 1) xs)) ∙ ap (flat_map field) (take-append-drop (i + 1) xs) in
+      let whole : flat_map field (take (i + 1) xs) ++ flat_map field (drop (i + 1) xs) ≡ flat_map field xs = sym (flat_map-append field (take (i + 1) xs) (drop (i + 1) xs)) ∙ ap (flat_map field) (take-append-drop (i + 1) xs) in
       let short : Puts a (flat_map field (take (i + 1) xs)) None c = subst (λ bs. Puts a bs None c) more (puts_then a b c (flat_map field (take i xs)) (field x) None so_far q) in
       subst (λ bs. Puts a bs None c) whole (puts_short a c (flat_map field (take (i + 1) xs)) (flat_map field (drop (i + 1) xs)) short)
 
