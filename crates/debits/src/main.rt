@@ -13,6 +13,7 @@ fn read_all(rt: &HostRuntime, buffer: &mut [u8]) -> io::Result<usize>
 {
     let mut input = rt.stdin();
     let mut count = 0;
+    // Kept: `read_exact` tells no count at the end of a file, and `read_to_end` takes heap.
     while count < buffer.len() {
         let n = input.read(&mut buffer[count..])?;
         if n == 0 {

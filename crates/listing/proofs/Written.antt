@@ -1,11 +1,11 @@
 -- Bytes written over bytes, one piece after another.
-use Rattle.std.proofs.Common.{◌≡◌, ℕ, ◌+◌, ◌<◌, List, [], ◌∷◌, ◌++◌, length, get_or, take, drop, Some, None, Option, sym, ap, ◌∙◌, subst, arith}
+use Rattle.std.proofs.Common.{refl, ◌≡◌, ℕ, ◌+◌, ◌<◌, List, [], ◌∷◌, ◌++◌, length, get_or, take, drop, Some, None, Option, sym, ap, ◌∙◌, subst, arith}
 use Rattle.std.specs.List.{flat_map}
 use Rattle.std.proofs.lemmas.Grind.{flat_map-append}
 use Rattle.std.proofs.lemmas.List.{append_assoc, length-append, take-append-drop, take_more, flat_map_more}
 use Rattle.rollfile.specs.Writing.{over}
 use Rattle.rollfile.proofs.Overs.{over-over}
-use Rattle.listing.specs.Text.{field, line, Puts}
+use Rattle.listing.specs.Text.{field, line, Puts, Writes}
 use Rattle.listing.specs.declared.text.Text.{Text}
 
 -- where the first piece fits, the second decides
@@ -27,6 +27,22 @@ puts_then a b c xs ys (Some u) p q = record {
 -- where the first piece does not fit, the whole does not
 pub puts_short : (a b : Text) (xs ys : List ℕ) → Puts a xs None b → Puts a (xs ++ ys) None b
 puts_short a b xs ys p = record { lent = p.lent; length_same = p.length_same; written = omega (arith, length-append xs ys, p.written) }
+
+-- nothing is written
+pub puts_none : (a : Text) → Puts a [] (Some tt) a
+puts_none a =
+    let z : a.at ≡ a.at + 0 = omega arith in
+    record { lent = refl; length_same = refl; written = (z, sym (take-append-drop a.at a.out.now) ∙ ap (λ n. take a.at a.out.now ++ drop n a.out.now) z) }
+
+-- some text
+pub puts_writes : (a b : Text) (bs : List ℕ) (r : Option (Unit {0})) → Puts a bs r b → Writes a r b
+puts_writes a b bs None p = tt
+puts_writes a b bs (Some u) p = (bs, p)
+
+-- some text, then more
+pub writes_then : (a b c : Text) (r : Option (Unit {0})) → Writes a (Some tt) b → Writes b r c → Writes a r c
+writes_then a b c None p q = tt
+writes_then a b c (Some u) p q = (p.0 ++ q.0, puts_then a b c p.0 q.0 (Some u) p.1 q.1)
 
 -- a line of two numbers, piece by piece
 pub line_of_two : (letter m n : ℕ) → letter ∷ (field m ++ (field n ++ 10 ∷ [])) ≡ line letter (m ∷ n ∷ [])

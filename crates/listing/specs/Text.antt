@@ -25,6 +25,11 @@ pub record Puts (was : Text) (bs : List ℕ) (r : Option (Unit {0})) (is : Text)
   pub length_same : length is.out.now ≡ length was.out.now
   pub written : Wrote was bs r is
 
+-- some bytes are put into a text, or do not fit
+abbrev pub Writes : Text → Option (Unit {0}) → Text → Type 0
+Writes was None is = Unit {0}
+Writes was (Some u) is = (bs : List ℕ) × Puts was bs (Some tt) is
+
 -- a listing stands at the front of the output and its length is told, and what is behind it stays; or it does not fit, and the
 -- whole output is zero
 abbrev pub Lists : List ℕ → Result ℕ Refusal → List ℕ → Type 0

@@ -2,7 +2,7 @@
 ghost use Rattle.std.specs.Prelude.{◌≡◌, ℕ, List, length, Ok};
 ghost use Rattle.crossed.specs.Rolls.{Sound};
 ghost use Rattle.listing.specs.Exact.{SearchesAreExact};
-ghost use Rattle.listing.specs.Text.{Puts, Lists};
+ghost use Rattle.listing.specs.Text.{Puts, Writes, Lists};
 ghost use Rattle.listing.specs.Listing.{lines_of, listing as listing_of, fault_in, ListsFile};
 ghost use Rattle.listing.specs.Walk.{lines_left};
 
@@ -26,7 +26,8 @@ fn faults_in(file: &[u8], cells: &mut [Entry], table: &[Ranked]) -> Result<(), F
 
 // The lines of the questions that are left, in a file that has no fault; none where they do not fit the output.
 fn put_on(text: &mut Text, walk: &mut Walk, table: &mut [Ranked]) -> Option<()>
-    ensures { (bs : List ℕ) → Sound walk.old.roll → lines_left (length table.old) walk.old 0 ≡ Ok bs → Puts text.old bs result text.new }
+    ensures lines { (bs : List ℕ) → Sound walk.old.roll → lines_left (length table.old) walk.old 0 ≡ Ok bs → Puts text.old bs result text.new }
+    ensures writes { Writes text.old result text.new }
 {
     let mut ordinal = 0usize;
     'records: loop {
@@ -48,7 +49,8 @@ fn put_questions(
     cells: &mut [Entry],
     table: &mut [Ranked],
 ) -> Option<()>
-    ensures { (bs : List ℕ) → lines_of (length cells.old) (length table.old) file.now ≡ Ok bs → Puts text.old bs result text.new }
+    ensures lines { (bs : List ℕ) → lines_of (length cells.old) (length table.old) file.now ≡ Ok bs → Puts text.old bs result text.new }
+    ensures writes { Writes text.old result text.new }
 {
     let Ok(mut walk) = Walk::open(file, cells) else {
         return Some(());

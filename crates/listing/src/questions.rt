@@ -6,7 +6,7 @@ ghost use Rattle.exploring.specs.Meaning.{size_of};
 ghost use Rattle.crossed.specs.Rolls.{standing, Sound};
 ghost use Rattle.crossing.specs.Asking.{asking};
 ghost use Rattle.crossing.specs.Meaning.{Keeps, to_come};
-ghost use Rattle.listing.specs.Text.{Puts};
+ghost use Rattle.listing.specs.Text.{Puts, Writes};
 ghost use Rattle.listing.specs.Listing.{numbers as numbers_at, set_line, sets_lines, question_lines};
 
 use crate::text::Text;
@@ -41,7 +41,8 @@ fn put_set(text: &mut Text, entries: &[Entry], places: &[u16]) -> Option<()>
 
 // A line for each set that the Search hands out within its steps, and one that says how it ended.
 fn put_sets(text: &mut Text, entries: &[Entry], state: &mut Search) -> Option<()>
-    ensures { Keeps state.old → AllByRecursion (λ s. length s ≡ size_of state.old.straight) (somes (to_come state.old)) → Puts text.old (sets_lines entries.now (to_come state.old)) result text.new }
+    ensures lines { Keeps state.old → AllByRecursion (λ s. length s ≡ size_of state.old.straight) (somes (to_come state.old)) → Puts text.old (sets_lines entries.now (to_come state.old)) result text.new }
+    ensures writes { Writes text.old result text.new }
 {
     let mut page = [0u16; 120];
     let size = state.places();
@@ -67,7 +68,8 @@ pub(crate) fn put_question(
     asked: Question,
     table: &mut [Ranked],
 ) -> Option<()>
-    ensures { asking roll.now.columns (length (standing roll.now)) asked (length table.old) ≡ Ok tt → Sound roll.now → Puts text.old (question_lines ordinal (standing roll.now) asked) result text.new }
+    ensures lines { asking roll.now.columns (length (standing roll.now)) asked (length table.old) ≡ Ok tt → Sound roll.now → Puts text.old (question_lines ordinal (standing roll.now) asked) result text.new }
+    ensures writes { Writes text.old result text.new }
 {
     text.line(b'Q', ordinal, asked.size)?;
     let mut state = begin(roll, asked, table);

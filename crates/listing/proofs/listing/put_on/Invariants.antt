@@ -1,5 +1,6 @@
-use Rattle.std.proofs.Common.{◌≡◌, ℕ, ◌-◌, ◌≤◌, List, length, Ok}
+use Rattle.std.proofs.Common.{◌≡◌, ℕ, ◌-◌, ◌≤◌, List, length, Some, Ok}
 use Rattle.crossed.specs.Rolls.{Sound}
+use Rattle.listing.specs.Text.{Writes}
 use Rattle.listing.specs.Walk.{lines_left}
 use Rattle.listing.proofs.Putting.{Left}
 use Rattle.listing.proofs.listing.put_on.Given as goal
@@ -11,6 +12,7 @@ invariant-records l =
     let t = length l.initial.table in
     (l.ordinal ≤ l.walk.reader.place) × (length l.table ≡ t) × (Sound was.roll → Sound l.walk.roll)
     × ((bs : List ℕ) → Sound was.roll → lines_left t was 0 ≡ Ok bs → Left t l.walk l.ordinal l.initial.text l.text bs)
+    × Writes l.initial.text (Some tt) l.text
 
 abbrev pub decreases-records : goal.decreases-records
 decreases-records l = length l.walk.reader.bytes.now - l.walk.reader.place

@@ -1,5 +1,5 @@
 use Rattle.std.proofs.Common.{length, ◌∙◌}
 use Rattle.listing.proofs.listing.put_questions.Goals as goal
 
-pub returns : goal.returns
-returns c = λ bs whole. let opened = c.in-Ok.ensures in c.put_on.ensures bs opened.0 (opened.1 (length c.args.table.now) ∙ whole)
+pub returns-clause-lines : goal.returns-clause-lines
+returns-clause-lines c = λ bs whole. let opened = c.in-Ok.ensures in c.put_on.ensures.lines bs opened.0 (opened.1 (length c.args.table.now) ∙ whole)

@@ -6,12 +6,12 @@ use Rattle.crossing.specs.Meaning.{to_come}
 use Rattle.crossing.proofs.Accepting.{accepted_fits}
 use Rattle.listing.specs.Text.{Puts, line}
 use Rattle.listing.specs.Listing.{coming, sets_lines}
-use Rattle.listing.proofs.Written.{puts_then}
+use Rattle.listing.proofs.Written.{puts_then, writes_then}
 use Rattle.listing.proofs.Sized.{starts_sized}
 use Rattle.listing.proofs.questions.put_question.Goals as goal
 
-pub returns : goal.returns
-returns c = λ accepted sound.
+pub returns-clause-lines : goal.returns-clause-lines
+returns-clause-lines c = λ accepted sound.
     let roll = c.args.roll.now in
     let xs = standing roll in
     let q = c.args.asked in
@@ -23,5 +23,8 @@ returns c = λ accepted sound.
     let sized = starts_sized xs q was s fits.some fits.most starts in
     let puts : Puts c.line.new.self (sets_lines xs (coming xs q)) c.put_sets.result c.put_sets.new.text =
     subst (λ t. Puts c.line.new.self (sets_lines xs t) c.put_sets.result c.put_sets.new.text) starts.comes
-    (subst (λ l. Puts c.line.new.self (sets_lines l (to_come s)) c.put_sets.result c.put_sets.new.text) c.entries.ensures (c.put_sets.ensures starts.keeps sized)) in
+    (subst (λ l. Puts c.line.new.self (sets_lines l (to_come s)) c.put_sets.result c.put_sets.new.text) c.entries.ensures (c.put_sets.ensures.lines starts.keeps sized)) in
     puts_then c.args.text.now c.line.new.self c.put_sets.new.text (line 81 (c.args.ordinal ∷ q.size ∷ [])) (sets_lines xs (coming xs q)) c.put_sets.result c.in_ok-line.ensures puts
+
+pub returns-clause-writes : goal.returns-clause-writes
+returns-clause-writes c = writes_then c.args.text.now c.line.new.self c.put_sets.new.text c.put_sets.result (line 81 (c.args.ordinal ∷ c.args.asked.size ∷ []), c.in_ok-line.ensures) c.put_sets.ensures.writes

@@ -3,7 +3,7 @@ use Rattle.std.specs.List.{AllByRecursion}
 use Rattle.sets.specs.Trace.{somes}
 use Rattle.exploring.specs.Meaning.{size_of}
 use Rattle.crossing.specs.Meaning.{Keeps, to_come}
-use Rattle.listing.specs.Text.{Puts}
+use Rattle.listing.specs.Text.{Puts, Writes}
 use Rattle.listing.specs.Listing.{lines_within, most_steps}
 use Rattle.listing.proofs.questions.put_sets.Given as goal
 
@@ -15,6 +15,7 @@ invariant-sets l =
     (length l.page ≡ 120) × (size_of l.state.straight ≡ size_of s.straight) × (l.left ≤ most_steps)
     × (Keeps s → AllByRecursion sized (somes (to_come s)) → Keeps l.state × AllByRecursion sized (somes (to_come l.state))
     × ((pre : List ℕ) × Puts l.initial.text pre (Some tt) l.text × (pre ++ lines_within l.left l.entries (to_come l.state) ≡ lines_within most_steps l.entries (to_come s))))
+    × Writes l.initial.text (Some tt) l.text
 
 abbrev pub decreases-sets : goal.decreases-sets
 decreases-sets l = l.left
