@@ -13,10 +13,8 @@ fn read_all(rt: &HostRuntime, buffer: &mut [u8]) -> io::Result<usize>
 {
     let mut input = rt.stdin();
     let mut count = 0;
-    for _ in 0..65_537 {
-        if count == buffer.len() {
-            break;
-        }
+    // Kept: `read_exact` tells no count at the end of a file, and `read_to_end` takes heap.
+    while count < buffer.len() {
         let n = input.read(&mut buffer[count..])?;
         if n == 0 {
             break;
@@ -30,8 +28,8 @@ fn main(rt: HostRuntime) -> io::Result<()> {
     let mut file = [0u8; 65_537];
     let mut out = [0u8; 65_536];
     let count = read_all(&rt, &mut file)?;
-    match list(&file[0..count], &mut out) {
-        Ok(n) => rt.write_all(&out[0..n]),
+    match list(&file[..count], &mut out) {
+        Ok(n) => rt.write_all(&out[..n]),
         Err(_) => Ok(()),
     }
 }

@@ -11,13 +11,14 @@ use Rattle.crossed.specs.Books.{if_ok}
 use Rattle.crossing.specs.Asking.{asking}
 use Rattle.records.specs.declared.reader.Fault.{Fault}
 use Rattle.records.specs.Bytes.{asked_of}
-use Rattle.records.specs.declared.reader.Reader.{Reader}
-use Rattle.records.specs.declared.reader.Record.{Record}
-use Rattle.records.specs.Records.{Rec, heading, entering, striking, question, fault_of, size_of, parsed, located, some, next_of, moved, told, Behind, ReadNext}
+use Rattle.records.specs.Records.{Rec, heading, entering, striking, question, fault_of, size_of, parsed, located, some, next_of}
 use Rattle.records.proofs.Nexts.{next_at}
-use Rattle.rollfile.specs.Files.{then, headed, opened}
-use Rattle.rollfile.proofs.Runs.{parsed_fits, next_none, first_behind}
-use Rattle.listing.specs.Listing.{question_in, is_question, faulted, record_lines, question_lines, asked_so_far, before, tried, lines, lines_of, fault_in}
+use Rattle.rollfile.specs.Files.{then}
+use Rattle.rollfile.proofs.Runs.{parsed_fits, next_none}
+use Rattle.crossed.specs.Rolls.{standing, room_of}
+use Rattle.listing.specs.declared.walk.Walk.{Walk}
+use Rattle.listing.specs.Walk.{lines_left, Takes}
+use Rattle.listing.specs.Listing.{Tried, question_in, is_question, faulted, record_lines, question_lines, asked_so_far, before, tried, lines, fault_in}
 
 module _ (d : Columns) (room table : ℕ) where
   -- the bytes of a body are passed over
@@ -80,11 +81,8 @@ module _ (d : Columns) (room table : ℕ) where
   fault_before l (Ok x) = refl
   fault_before l (Err f) = refl
 
-  -- the four ways in which a record ends
+  -- how a record ends
   module _ (bs : List ℕ) (xs : List Entry) (k at : ℕ) (positive : 0 < at) (short : length bs ≤ 65536) where
-    pub step_fault : (f : Fault) → Err f ≡ next_of bs at → lines d room table (drop at bs) xs k 0 at ≡ Err f
-    step_fault f q = lines_step bs xs k at positive short ∙ sym (ap (continues bs xs k at) q)
-
     pub step_end : Ok None ≡ next_of bs at → lines d room table (drop at bs) xs k 0 at ≡ Ok []
     step_end q = lines_step bs xs k at positive short ∙ sym (ap (continues bs xs k at) q)
 
@@ -99,57 +97,57 @@ module _ (d : Columns) (room table : ℕ) where
         ∙ sym (ap (λ x. then (faulted (is_question r) at x) (λ zs. before (record_lines k xs r) (lines d room table (drop (at + 1 + size_of (get_or bs at 0)) bs) zs (asked_so_far k r) 0 (at + 1 + size_of (get_or bs at 0))))) t)
         ∙ ap (λ n. before (record_lines k xs r) (lines d room table (drop n bs) ys (asked_so_far k r) 0 n)) (sym e)
 
+-- a record that asks a question: its lines
+pub question_asked : (k : ℕ) (xs : List Entry) (r : Rec) (q : Question) → Some q ≡ question_in r → (record_lines k xs r ≡ question_lines (suc k) xs q) × (asked_so_far k r ≡ suc k)
+question_asked k xs (heading b) q e = cc
+question_asked k xs (entering b) q e = cc
+question_asked k xs (striking b) q e = cc
+question_asked k xs (question b) q e = let same : q ≡ asked_of b = cc in (ap (question_lines (suc k) xs) (sym same), refl)
+
+module _ (d : Columns) (table : ℕ) (xs ys : List Entry) where
+  if_accepted : (a : Result (Unit {0}) Refusal) → Ok ys ≡ if_ok a xs → (a ≡ Ok tt) × (ys ≡ xs)
+  if_accepted (Ok u) e = (refl, cc)
+  if_accepted (Err x) e = cc
+
+  -- a question that is accepted changes nothing
+  kept_by : (room k : ℕ) (r : Rec) → Ok ys ≡ tried d room table xs r → record_lines k xs r ≡ record_lines k ys r
+  kept_by room k (heading b) e = refl
+  kept_by room k (entering b) e = refl
+  kept_by room k (striking b) e = refl
+  kept_by room k (question b) e = ap (λ zs. question_lines (suc k) zs (asked_of b)) (sym (if_accepted (asking d (length xs) (asked_of b) table) e).1)
+
+  accepted_by : (room : ℕ) (r : Rec) (q : Question) → Some q ≡ question_in r → Ok ys ≡ tried d room table xs r → asking d (length ys) q table ≡ Ok tt
+  accepted_by room (heading b) q e t = cc
+  accepted_by room (entering b) q e t = cc
+  accepted_by room (striking b) q e t = cc
+  accepted_by room (question b) q e t =
+      let same : q ≡ asked_of b = cc in
+      let both = if_accepted (asking d (length xs) (asked_of b) table) t in
+      ap (λ p. asking d (length ys) p table) same ∙ ap (λ zs. asking d (length zs) (asked_of b) table) both.1 ∙ both.0
+
+module _ (t : ℕ) (was is : Walk) (r : Rec) where
+  -- a record that is read and is not at fault
+  pub takes : Ok (Some r) ≡ next_of was.reader.bytes.now was.reader.place → is.reader.place ≡ was.reader.place + 1 + size_of (get_or was.reader.bytes.now was.reader.place 0) → is.reader.bytes.now ≡ was.reader.bytes.now → Tried was.roll t r (Ok tt) is.roll → Takes t was r is
+  takes q moves file done = record {
+    file = file;
+    place = omega arith;
+    sound = done.sound;
+    lines = λ k.
+        let now : lines was.roll.columns (room_of was.roll) t (drop is.reader.place was.reader.bytes.now) (standing is.roll) (asked_so_far k r) 0 is.reader.place ≡ lines_left t is (asked_so_far k r) = cc in
+        step_on was.roll.columns (room_of was.roll) t was.reader.bytes.now (standing was.roll) k was.reader.place was.positive was.short r (standing is.roll) is.reader.place q moves done.answer
+        ∙ ap (λ l. before l (lines was.roll.columns (room_of was.roll) t (drop is.reader.place was.reader.bytes.now) (standing is.roll) (asked_so_far k r) 0 is.reader.place)) (kept_by was.roll.columns t (standing was.roll) (standing is.roll) (room_of was.roll) k r done.answer)
+        ∙ ap (before (record_lines k (standing is.roll) r)) now;
+    accepted = λ p e. ap (λ d. asking d (length (standing is.roll)) p t) done.columns ∙ accepted_by was.roll.columns t (standing was.roll) (standing is.roll) (room_of was.roll) r p e done.answer;
+  }
+
   -- the first fault is that of the records behind
-  pub fault_on : (bs : List ℕ) (xs : List Entry) (at : ℕ) → 0 < at → length bs ≤ 65536 → (r : Rec) (ys : List Entry) (at' : ℕ) → Ok (Some r) ≡ next_of bs at → at' ≡ at + 1 + size_of (get_or bs at 0) → Ok ys ≡ tried d room table xs r → fault_in (lines d room table (drop at' bs) ys 0 0 at') ≡ fault_in (lines d room table (drop at bs) xs 0 0 at)
-  fault_on bs xs at positive short r ys at' q e t =
-      sym (ap fault_in (step_on bs xs 0 at positive short r ys at' q e t) ∙ fault_before (record_lines 0 xs r) (lines d room table (drop at' bs) ys (asked_so_far 0 r) 0 at') ∙ fault_any (drop at' bs) ys (asked_so_far 0 r) 0 0 at')
+  pub fault_behind : Takes t was r is → fault_in (lines_left t is 0) ≡ fault_in (lines_left t was 0)
+  fault_behind h =
+      sym (ap fault_in (h.lines 0)
+      ∙ fault_before is.roll.columns (room_of is.roll) t (record_lines 0 (standing is.roll) r) (lines_left t is (asked_so_far 0 r))
+      ∙ fault_any is.roll.columns (room_of is.roll) t (drop is.reader.place is.reader.bytes.now) (standing is.roll) (asked_so_far 0 r) 0 0 is.reader.place)
 
--- a record that asks a question
-pub asks : (d : Columns) (room table k : ℕ) (xs ys : List Entry) (r : Rec) (q : Question) → Some q ≡ question_in r → Ok ys ≡ tried d room table xs r → (asking d (length xs) q table ≡ Ok tt) × (ys ≡ xs) × (record_lines k xs r ≡ question_lines (suc k) xs q) × (asked_so_far k r ≡ suc k)
-asks d room table k xs ys (heading b) q e t = let z : ◌≡◌ {A = ℕ} 0 1 = cc in absurd (omega arith)
-asks d room table k xs ys (entering b) q e t = let z : ◌≡◌ {A = ℕ} 0 1 = cc in absurd (omega arith)
-asks d room table k xs ys (striking b) q e t = let z : ◌≡◌ {A = ℕ} 0 1 = cc in absurd (omega arith)
-asks d room table k xs ys (question b) q e t =
-    let same : q ≡ asked_of b = cc in
-    let both = go (asking d (length xs) (asked_of b) table) refl t in
-    (ap (λ p. asking d (length xs) p table) same ∙ both.0, both.1, ap (question_lines (suc k) xs) (sym same), refl)
-  where
-    go : (a : Result (Unit {0}) Refusal) → asking d (length xs) (asked_of b) table ≡ a → Ok ys ≡ if_ok a xs → (asking d (length xs) (asked_of b) table ≡ Ok tt) × (ys ≡ xs)
-    go (Ok u) f g = (f, cc)
-    go (Err x) f g = let z : ◌≡◌ {A = ℕ} 0 1 = cc in absurd (omega arith)
-
--- a record that asks none
-pub asks_none : (k : ℕ) (xs : List Entry) (r : Rec) → None ≡ question_in r → (record_lines k xs r ≡ []) × (asked_so_far k r ≡ k)
-asks_none k xs (heading b) e = (refl, refl)
-asks_none k xs (entering b) e = (refl, refl)
-asks_none k xs (striking b) e = (refl, refl)
-asks_none k xs (question b) e = let z : ◌≡◌ {A = ℕ} 0 1 = cc in absurd (omega arith)
-
--- a file that says its columns has a first record, and the reader stands behind it
-behind_first : (bs : List ℕ) (d : Columns) (is : Reader) (r : Result (Option Rec) Fault) → Ok d ≡ opened bs → r ≡ next_of bs 0 → is.place ≡ moved bs 0 r → is.bytes.now ≡ bs → Behind is × (is.place ≡ 2)
-behind_first bs d is (Err f) e q at file = let z : ◌≡◌ {A = ℕ} 0 1 = cc (e ∙ ap (λ x. then x headed) (sym q)) in absurd (omega arith)
-behind_first bs d is (Ok o) e q at file = first_behind bs is o (sym q) at file
-
-pub behind_heading : (bs : List ℕ) (d : Columns) (was is : Reader) (r : Result (Option Record) Fault) → Ok d ≡ opened bs → was.bytes.now ≡ bs → was.place ≡ 0 → ReadNext was r is → Behind is × (is.place ≡ 2)
-behind_heading bs d was is r e file start next =
-    behind_first bs d is (told r) e (next.answer ∙ ap (λ b. next_of b was.place) file ∙ ap (next_of bs) start)
-    (next.place ∙ ap (λ b. moved b was.place (told r)) file ∙ ap (λ n. moved bs n (told r)) start) (next.file ∙ file)
-
--- what a file gives, by its columns
-pub lines_of_is : (room table : ℕ) (bs : List ℕ) (d : Columns) → Ok d ≡ opened bs → lines d room table (drop 2 bs) [] 0 0 2 ≡ lines_of room table bs
-lines_of_is room table bs d e = ap (λ x. then x (λ c. lines c room table (drop 2 bs) [] 0 0 2)) e
-
--- without a fault there are lines, and with one there are none
+-- without a fault there are lines
 pub has_lines : (x : Result (List ℕ) Fault) → Ok tt ≡ fault_in x → (text : List ℕ) × (x ≡ Ok text)
 has_lines (Ok text) e = (text, refl)
-has_lines (Err f) e = let z : ◌≡◌ {A = ℕ} 0 1 = cc in absurd (omega arith)
-
-pub has_fault : (x : Result (List ℕ) Fault) (f : Fault) → Err f ≡ fault_in x → x ≡ Err f
-has_fault (Ok text) f e = let z : ◌≡◌ {A = ℕ} 0 1 = cc in absurd (omega arith)
-has_fault (Err g) f e = cc
-
--- lines in one place are lines in another
-pub lines_at : (d d' : Columns) (room room' table : ℕ) (bs bs' : List ℕ) (xs : List Entry) (at : ℕ) → d' ≡ d → room' ≡ room → bs' ≡ bs → xs ≡ [] → at ≡ 2 → lines d' room' table (drop at bs') xs 0 0 at ≡ lines d room table (drop 2 bs) [] 0 0 2
-lines_at d d' room room' table bs bs' xs at a b c e f =
-    ap (λ x. lines x room' table (drop at bs') xs 0 0 at) a ∙ ap (λ x. lines d x table (drop at bs') xs 0 0 at) b ∙ ap (λ x. lines d room table (drop at x) xs 0 0 at) c
-    ∙ ap (λ x. lines d room table (drop at bs) x 0 0 at) e ∙ ap (λ x. lines d room table (drop x bs) [] 0 0 x) f
+has_lines (Err f) e = cc

@@ -1,7 +1,8 @@
 -- The lines of a set's numbers, and the lines of the sets that advances hand out.
-use Rattle.std.proofs.Common.{◌≡◌, ℕ, zero, suc, ◌+◌, ◌-◌, ◌<◌, ◌≤◌, false, cond, leb, List, [], ◌∷◌, ◌++◌, map, length, get_or, take, drop, set, Some, None, sym, refl, ap, ◌∙◌, subst, ap₂, add-zero, arith}
+use Rattle.std.proofs.Common.{◌≡◌, ℕ, zero, suc, ◌+◌, ◌-◌, ◌<◌, false, cond, leb, List, [], ◌∷◌, ◌++◌, map, length, get_or, take, drop, Some, None, sym, refl, ap, ◌∙◌, subst, ap₂, add-zero, arith}
 use Rattle.std.specs.List.{flat_map, AllByRecursion}
-use Rattle.std.proofs.lemmas.List.{append_assoc, take_more, take-set-le, get_or-set_same, get_or_past, length-map, length-set, map-append, take_at}
+use Rattle.std.proofs.Math.Seq.{take-nil}
+use Rattle.std.proofs.lemmas.List.{get_or-map, append_assoc, length-map, take_at}
 use Rattle.std.proofs.lemmas.Bool.{le-leb}
 use Rattle.std.proofs.lemmas.Bool.Decides.{nat_tests}
 use Rattle.sets.specs.Trace.{Trace, somes}
@@ -10,27 +11,16 @@ use Rattle.exploring.specs.declared.state.Answer.{Answer}
 use Rattle.exploring.specs.declared.state.Told.TheVariants.{Set, Spent, Finished}
 use Rattle.exploring.specs.Meaning.{told_of, Ran}
 use Rattle.crossed.specs.Entries.{Entry}
-use Rattle.crossed.specs.Entries.{zero_entry}
 use Rattle.listing.specs.Text.{line}
 use Rattle.listing.specs.Listing.{numbers, set_line, lines_within}
 
--- one number more
-pub numbers_more : (xs : List Entry) (ps ns : List ℕ) (i p v : ℕ) → i < length ps → i < length ns → p ≡ get_or ps i 0 → v ≡ get_or (map (λ e. e.number) xs) (p - 1) 0 → take i ns ≡ numbers xs (take i ps) → take (i + 1) (set ns i v) ≡ numbers xs (take (i + 1) ps)
-numbers_more xs ps ns i p v here room at is was =
-    let f = λ (q : ℕ). get_or (map (λ e. e.number) xs) (q - 1) 0 in
-    take_more (set ns i v) i 0 (omega (arith, length-set ns i v))
-    ∙ ap₂ (λ l x. l ++ (x ∷ [])) (take-set-le i ns i v (omega arith) ∙ was) (get_or-set_same ns i v 0 room ∙ is ∙ ap f at)
-    ∙ sym (map-append f (take i ps) (get_or ps i 0 ∷ []))
-    ∙ ap (map f) (sym (take_more ps i 0 here))
+-- a set has a number for each place
+pub length-numbers : (xs : List Entry) (ps : List ℕ) → length (numbers xs ps) ≡ length ps
+length-numbers xs ps = length-map ps (λ p. get_or (map (λ e. e.number) xs) (p - 1) 0)
 
--- the number of the entry at an index, and 0 past the last
-pub number_within : (xs : List Entry) (k : ℕ) → k < length xs → (get_or xs k zero_entry).number ≡ get_or (map (λ e. e.number) xs) k 0
-number_within [] k h = absurd (omega arith)
-number_within (x ∷ xs) zero h = refl
-number_within (x ∷ xs) (suc k) h = number_within xs k (omega arith)
-
-pub number_past : (xs : List Entry) (k : ℕ) → length xs ≤ k → 0 ≡ get_or (map (λ e. e.number) xs) k 0
-number_past xs k h = sym (get_or_past (map (λ e. e.number) xs) k 0 (omega (arith, length-map xs (λ e. e.number))))
+-- the one at an index is that of the place there
+pub number_read : (xs : List Entry) (ps : List ℕ) (i : ℕ) → i < length ps → get_or (map (λ e. e.number) xs) (get_or ps i 0 - 1) 0 ≡ get_or (numbers xs ps) i 0
+number_read xs ps i h = sym (get_or-map (λ p. get_or (map (λ e. e.number) xs) (p - 1) 0) ps i 0 0 h)
 
 shift : (a b : ℕ) → leb (suc a) (suc b) ≡ leb a b
 shift a b = grind (arith, nat_tests)
@@ -44,12 +34,8 @@ follows left xs (set_end ps) n rest = set_line xs ps ++ lines_within (left - n) 
 follows left xs spent n rest = line 80 []
 follows left xs finished n rest = line 70 []
 
-none_left : (left : ℕ) → somes (take left []) ≡ []
-none_left zero = refl
-none_left (suc left) = refl
-
 run-lines : (xs : List Entry) (t : Trace) (left k : ℕ) → lines_within left xs t ≡ follows (left + k) xs (run t left k).end (run t left k).steps (run t left k).rest
-run-lines xs [] left k = ap₂ (λ s b. flat_map (set_line xs) s ++ line (cond b 70 80) []) (none_left left) (le-leb 0 left (omega arith))
+run-lines xs [] left k = ap₂ (λ s b. flat_map (set_line xs) s ++ line (cond b 70 80) []) (ap somes (take-nil left)) (le-leb 0 left (omega arith))
 run-lines xs (None ∷ t) zero k = ap (λ b. line (cond b 70 80) []) (never (length t))
 run-lines xs (Some ps ∷ t) zero k = ap (λ b. line (cond b 70 80) []) (never (length t))
 run-lines xs (None ∷ t) (suc left) k =
@@ -85,27 +71,27 @@ module _ (xs : List Entry) (t : Trace) (left : ℕ) (a : Answer) (page page' : L
   lines_spent h = ran_lines xs t left ∙ go (run t left 0).end (sym ran.told ∙ h)
     where
       go : (e : End) → told_of e ≡ Spent → follows left xs e (run t left 0).steps (run t left 0).rest ≡ line 80 []
-      go (set_end ps) q = let z : ◌≡◌ {A = ℕ} 0 1 = cc in absurd (omega arith)
+      go (set_end ps) q = cc
       go spent q = refl
-      go finished q = let z : ◌≡◌ {A = ℕ} 0 1 = cc in absurd (omega arith)
+      go finished q = cc
 
   pub lines_finished : a.told ≡ Finished → lines_within left xs t ≡ line 70 []
   lines_finished h = ran_lines xs t left ∙ go (run t left 0).end (sym ran.told ∙ h)
     where
       go : (e : End) → told_of e ≡ Finished → follows left xs e (run t left 0).steps (run t left 0).rest ≡ line 70 []
-      go (set_end ps) q = let z : ◌≡◌ {A = ℕ} 0 1 = cc in absurd (omega arith)
-      go spent q = let z : ◌≡◌ {A = ℕ} 0 1 = cc in absurd (omega arith)
+      go (set_end ps) q = cc
+      go spent q = cc
       go finished q = refl
 
   -- a set of so many places stands at the front of the page
-  pub lines-set : (size : ℕ) → a.told ≡ Set → AllByRecursion (λ s. length s ≡ size) (somes t) → (lines_within left xs t ≡ set_line xs (take size page') ++ lines_within (left - a.steps) xs rest) × AllByRecursion (λ s. length s ≡ size) (somes rest)
-  lines-set size h sized = go (run t left 0).end (sym ran.told ∙ h) (ran_lines xs t left) ran.page_is (run_holds (λ s. length s ≡ size) t left 0 sized)
+  pub lines-set : (k size : ℕ) → k ≡ size → a.told ≡ Set → AllByRecursion (λ s. length s ≡ size) (somes t) → (lines_within left xs t ≡ set_line xs (take k page') ++ lines_within (left - a.steps) xs rest) × AllByRecursion (λ s. length s ≡ size) (somes rest)
+  lines-set k size same h sized = go (run t left 0).end (sym ran.told ∙ h) (ran_lines xs t left) ran.page_is (run_holds (λ s. length s ≡ size) t left 0 sized)
     where
-      go : (e : End) → told_of e ≡ Set → lines_within left xs t ≡ follows left xs e (run t left 0).steps (run t left 0).rest → page' ≡ page_of e page → HoldsOn (λ s. length s ≡ size) e (run t left 0).rest → (lines_within left xs t ≡ set_line xs (take size page') ++ lines_within (left - a.steps) xs rest) × AllByRecursion (λ s. length s ≡ size) (somes rest)
+      go : (e : End) → told_of e ≡ Set → lines_within left xs t ≡ follows left xs e (run t left 0).steps (run t left 0).rest → page' ≡ page_of e page → HoldsOn (λ s. length s ≡ size) e (run t left 0).rest → (lines_within left xs t ≡ set_line xs (take k page') ++ lines_within (left - a.steps) xs rest) × AllByRecursion (λ s. length s ≡ size) (somes rest)
       go (set_end ps) q l p s =
-          let front : take size page' ≡ ps = ap (take size) p ∙ take_at ps (drop (length ps) page) size s.0 in (
+          let front : take k page' ≡ ps = ap (take k) p ∙ take_at ps (drop (length ps) page) k (s.0 ∙ sym same) in (
             l ∙ ap (λ r. set_line xs ps ++ lines_within (left - (run t left 0).steps) xs r) (sym ran.rest) ∙ ap₂ (λ f n. set_line xs f ++ lines_within (left - n) xs rest) (sym front) (sym ran.steps),
             subst (λ r. AllByRecursion (λ s. length s ≡ size) (somes r)) (sym ran.rest) s.1,
           )
-      go spent q l p s = let z : ◌≡◌ {A = ℕ} 0 1 = cc in absurd (omega arith)
-      go finished q l p s = let z : ◌≡◌ {A = ℕ} 0 1 = cc in absurd (omega arith)
+      go spent q l p s = cc
+      go finished q l p s = cc

@@ -1,3 +1,4 @@
 pub mod Exact
 pub mod Listing
 pub mod Text
+pub mod Walk

@@ -4,6 +4,7 @@ use Rattle.rollfile.specs.Writing.{over}
 use Rattle.roll.specs.declared.refusal.Refusal.{Refusal}
 use Rattle.roll.specs.declared.refusal.Refusal.TheVariants.{TooLong}
 use Rattle.std.specs.List.{flat_map}
+use Rattle.listing.specs.declared.text.Text.{Text}
 
 -- a blank and a number in decimal
 abbrev pub field : ℕ → List ℕ
@@ -13,15 +14,21 @@ field n = 32 ∷ decimal n
 abbrev pub line : ℕ → List ℕ → List ℕ
 line letter ns = letter ∷ (flat_map field ns ++ 10 ∷ [])
 
--- bs was written over the output from a place on, and the place behind it answered; or it does not fit
-abbrev pub Puts : List ℕ → ℕ → List ℕ → Option ℕ → List ℕ → Type 0
-Puts out at bs None after = length out < at + length bs
-Puts out at bs (Some n) after = (n ≡ at + length bs) × (n ≤ length out) × (after ≡ over out at bs)
+-- bs was written over the output behind what was written so far; or it does not fit
+abbrev pub Wrote : Text → List ℕ → Option (Unit {0}) → Text → Type 0
+Wrote was bs None is = length was.out.now < was.at + length bs
+Wrote was bs (Some u) is = (is.at ≡ was.at + length bs) × (is.out.now ≡ over was.out.now was.at bs)
 
--- some bytes were written over the output from a place on, and the place behind them answered
-abbrev pub Writes : List ℕ → ℕ → Option ℕ → List ℕ → Type 0
-Writes out at None after = Unit {0}
-Writes out at (Some n) after = (bs : List ℕ) × Puts out at bs (Some n) after
+-- bs is put into a text: the answer r, and how the text is then, over the same output
+pub record Puts (was : Text) (bs : List ℕ) (r : Option (Unit {0})) (is : Text) : Type 0 where
+  pub lent : is.out.ghost_name ≡ was.out.ghost_name
+  pub length_same : length is.out.now ≡ length was.out.now
+  pub written : Wrote was bs r is
+
+-- some bytes are put into a text, or do not fit
+abbrev pub Writes : Text → Option (Unit {0}) → Text → Type 0
+Writes was None is = Unit {0}
+Writes was (Some u) is = (bs : List ℕ) × Puts was bs (Some tt) is
 
 -- a listing stands at the front of the output and its length is told, and what is behind it stays; or it does not fit, and the
 -- whole output is zero

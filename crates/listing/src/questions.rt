@@ -9,7 +9,7 @@ ghost use Rattle.crossing.specs.Meaning.{Keeps, to_come};
 ghost use Rattle.listing.specs.Text.{Puts, Writes};
 ghost use Rattle.listing.specs.Listing.{numbers as numbers_at, set_line, sets_lines, question_lines};
 
-use crate::text::put_line;
+use crate::text::Text;
 use crossed::asked::Question;
 use crossed::entries::Entry;
 use crossed::rolls::Roll;
@@ -25,44 +25,27 @@ fn number_at(entries: &[Entry], place: u16) -> usize
     ensures { result ≡ slice_index (map (λ e. e.number) entries.now) (place - 1) }
 {
     let index = (place as usize).saturating_sub(1);
-    if index < entries.len() {
-        entries[index].number as usize
-    } else {
-        0
-    }
-}
-
-// Puts the numbers of the entries at the places in front of `numbers`, and tells how many.
-fn numbers_of(entries: &[Entry], places: &[u16], numbers: &mut [usize]) -> usize
-    ensures count { result ≡ min (length places.now) (length numbers.old) }
-    ensures are { take result numbers.new ≡ numbers_at entries.now (take result places.now) }
-{
-    let count = places.len().min(numbers.len());
-    for i in 0..count {
-        numbers[i] = number_at(entries, places[i]);
-    }
-    count
+    entries.get(index).map_or(0, |one| one.number as usize)
 }
 
 // A line for a set: the numbers of its entries.
-fn put_set(out: &mut [u8], at: usize, entries: &[Entry], places: &[u16]) -> Option<usize>
-    ensures line { length places.now ≤ 120 → Puts out.old at (set_line entries.now places.now) result out.new }
-    ensures writes { Writes out.old at result out.new }
+fn put_set(text: &mut Text, entries: &[Entry], places: &[u16]) -> Option<()>
+    ensures { Puts text.old (set_line entries.now places.now) result text.new }
 {
-    let mut numbers = [0usize; 120];
-    let count = numbers_of(entries, places, &mut numbers);
-    put_line(out, at, b'S', &numbers[0..count])
+    text.put(b"S")?;
+    for place in places {
+        text.field(number_at(entries, *place))?;
+    }
+    text.put(b"\n")
 }
 
 // A line for each set that the Search hands out within its steps, and one that says how it ended.
-fn put_sets(out: &mut [u8], at: usize, entries: &[Entry], state: &mut Search) -> Option<usize>
-    requires { at ≤ length out.old }
-    ensures lines { Keeps state.old → AllByRecursion (λ s. length s ≡ size_of state.old.straight) (somes (to_come state.old)) → Puts out.old at (sets_lines entries.now (to_come state.old)) result out.new }
-    ensures writes { Writes out.old at result out.new }
+fn put_sets(text: &mut Text, entries: &[Entry], state: &mut Search) -> Option<()>
+    ensures lines { Keeps state.old → AllByRecursion (λ s. length s ≡ size_of state.old.straight) (somes (to_come state.old)) → Puts text.old (sets_lines entries.now (to_come state.old)) result text.new }
+    ensures writes { Writes text.old result text.new }
 {
     let mut page = [0u16; 120];
     let size = state.places();
-    let mut next = at;
     let mut left = STEPS;
     'sets: loop {
         let Ok(answer) = state.advance(left, &mut page) else {
@@ -70,31 +53,25 @@ fn put_sets(out: &mut [u8], at: usize, entries: &[Entry], state: &mut Search) ->
         };
         left -= answer.steps;
         match answer.told {
-            Told::Spent => return put_line(out, next, b'P', &[]),
-            Told::Finished => return put_line(out, next, b'F', &[]),
-            Told::Set => match put_set(out, next, entries, &page[0..size]) {
-                None => return None,
-                Some(behind) => next = behind,
-            },
+            Told::Spent => return text.put(b"P\n"),
+            Told::Finished => return text.put(b"F\n"),
+            Told::Set => put_set(text, entries, &page[..size])?,
         }
     }
 }
 
 // The lines of an accepted question: its ordinal and size, its sets, and how the Search ended.
 pub(crate) fn put_question(
-    out: &mut [u8],
-    at: usize,
+    text: &mut Text,
     ordinal: usize,
     roll: &Roll,
     asked: Question,
     table: &mut [Ranked],
-) -> Option<usize>
-    ensures lines { asking roll.now.columns (length (standing roll.now)) asked (length table.old) ≡ Ok tt → Sound roll.now → Puts out.old at (question_lines ordinal (standing roll.now) asked) result out.new }
-    ensures writes { Writes out.old at result out.new }
+) -> Option<()>
+    ensures lines { asking roll.now.columns (length (standing roll.now)) asked (length table.old) ≡ Ok tt → Sound roll.now → Puts text.old (question_lines ordinal (standing roll.now) asked) result text.new }
+    ensures writes { Writes text.old result text.new }
 {
-    let Some(next) = put_line(out, at, b'Q', &[ordinal, asked.size]) else {
-        return None;
-    };
+    text.line(b'Q', ordinal, asked.size)?;
     let mut state = begin(roll, asked, table);
-    put_sets(out, next, roll.entries(), &mut state)
+    put_sets(text, roll.entries(), &mut state)
 }

@@ -1,68 +1,65 @@
-// Text written into an output: bytes, decimal numbers, fields. Each function writes from a place on and answers the place
-// behind what it wrote, or none where the output ends before.
-ghost use Rattle.std.specs.Prelude.{◌≤◌, [], ◌∷◌, length, decimal};
-ghost use Rattle.std.specs.List.{flat_map};
-ghost use Rattle.listing.specs.Text.{Puts, field, line};
+// Text written into an output from its front on.
+ghost use Rattle.std.specs.Prelude.{◌≡◌, ◌≤◌, length};
 
-// One byte.
-pub(crate) fn put(out: &mut [u8], at: usize, byte: u8) -> Option<usize>
-    ensures { Puts out.old at (byte ∷ []) result out.new }
-{
-    if at < out.len() {
-        out[at] = byte;
-        Some(at + 1)
-    } else {
-        None
+use itoa::Buffer;
+
+// An output, and the place behind what was written into it so far.
+#[derive(Drop)]
+pub(crate) struct Text<'o> {
+    out: &'o mut [u8],
+    at: usize,
+    ghost within: { at ≤ length out.now },
+}
+
+impl<'o> Text<'o> {
+    ghost use Rattle.std.specs.Prelude.{[], ◌∷◌};
+    ghost use Rattle.listing.specs.Text.{field, line, Puts};
+
+    // Nothing is written yet.
+    pub(crate) fn new(out: &'o mut [u8]) -> Text<'o>
+        ensures lent { result.out.ghost_name ≡ out.entry.ghost_name }
+        ensures same { result.out.now ≡ out.old }
+        ensures start { result.at ≡ 0 }
+    {
+        Text { out, at: 0 }
     }
-}
 
-// A number in decimal.
-pub(crate) fn put_decimal(out: &mut [u8], at: usize, n: usize) -> Option<usize>
-    ensures { Puts out.old at (decimal n) result out.new }
-{
-    if n < 10 {
-        return put(out, at, 48 + n as u8);
+    // How many bytes were written.
+    pub(crate) fn len(&self) -> usize
+        ensures { result ≡ self.now.at }
+    {
+        self.at
     }
-    let Some(next) = put_decimal(out, at, n / 10) else {
-        return None;
-    };
-    put(out, next, 48 + (n % 10) as u8)
-}
 
-// A blank and a number.
-pub(crate) fn put_field(out: &mut [u8], at: usize, n: usize) -> Option<usize>
-    ensures { Puts out.old at (field n) result out.new }
-{
-    let Some(next) = put(out, at, 32) else {
-        return None;
-    };
-    put_decimal(out, next, n)
-}
-
-// A field for each number.
-fn put_fields(out: &mut [u8], at: usize, numbers: &[usize]) -> Option<usize>
-    requires { at ≤ length out.old }
-    ensures { Puts out.old at (flat_map field numbers.now) result out.new }
-{
-    let mut next = at;
-    for n in numbers {
-        match put_field(out, next, *n) {
-            None => return None,
-            Some(behind) => next = behind,
+    // Some bytes.
+    pub(crate) fn put(&mut self, bytes: &[u8]) -> Option<()>
+        ensures { Puts self.old bytes.now result self.new }
+    {
+        let at = self.at;
+        if self.out.len() - at < bytes.len() {
+            return None;
         }
+        let end = at + bytes.len();
+        self.out[at..end].copy_from_slice(bytes);
+        self.at = end;
+        Some(())
     }
-    Some(next)
-}
 
-// A line: its letter, a field for each number, and the byte that ends it.
-pub(crate) fn put_line(out: &mut [u8], at: usize, letter: u8, numbers: &[usize]) -> Option<usize>
-    ensures { Puts out.old at (line letter numbers.now) result out.new }
-{
-    let Some(fields) = put(out, at, letter) else {
-        return None;
-    };
-    let Some(end) = put_fields(out, fields, numbers) else {
-        return None;
-    };
-    put(out, end, 10)
+    // A blank and a number in decimal.
+    pub(crate) fn field(&mut self, n: usize) -> Option<()>
+        ensures { Puts self.old (field n) result self.new }
+    {
+        self.put(b" ")?;
+        self.put(Buffer::new().format(n).as_bytes())
+    }
+
+    // A line of two numbers: its letter, a field for each, and the byte that ends it.
+    pub(crate) fn line(&mut self, letter: u8, first: usize, second: usize) -> Option<()>
+        ensures { Puts self.old (line letter (first ∷ second ∷ [])) result self.new }
+    {
+        self.put(&[letter])?;
+        self.field(first)?;
+        self.field(second)?;
+        self.put(b"\n")
+    }
 }

@@ -1,21 +1,18 @@
-use Rattle.std.proofs.Common.{◌≡◌, ℕ, ◌-◌, ◌<◌, ◌≤◌, List, length, drop, Some, Ok}
-use Rattle.crossed.specs.Rolls.{standing, room_of, Sound}
+use Rattle.std.proofs.Common.{◌≡◌, ℕ, ◌-◌, ◌≤◌, List, length, Some, Ok}
+use Rattle.crossed.specs.Rolls.{Sound}
 use Rattle.listing.specs.Text.{Writes}
-use Rattle.listing.specs.Listing.{lines}
+use Rattle.listing.specs.Walk.{lines_left}
 use Rattle.listing.proofs.Putting.{Left}
 use Rattle.listing.proofs.listing.put_on.Given as goal
 
 -- the lines so far are written, and with those that are left they are all lines
 abbrev pub invariant-records : goal.invariant-records
 invariant-records l =
-    let bs = l.initial.reader.bytes.now in
-    let was = l.initial.roll in
-    (l.reader.bytes.now ≡ bs) × (0 < l.reader.place) × (l.reader.place ≤ length bs)
-    × (l.roll.columns ≡ was.columns) × (room_of l.roll ≡ room_of was) × (Sound was → Sound l.roll)
-    × (l.ordinal ≤ l.reader.place) × (length l.table ≡ length l.initial.table)
-    × ((text : List ℕ) → Sound was → lines was.columns (room_of was) (length l.initial.table) (drop l.initial.reader.place bs) (standing was) 0 0 l.initial.reader.place ≡ Ok text
-    → Left was.columns (room_of was) (length l.initial.table) bs (standing l.roll) l.ordinal l.reader.place l.initial.out l.at l.out text)
-    × Writes l.initial.out 0 (Some l.at) l.out
+    let was = l.initial.walk in
+    let t = length l.initial.table in
+    (l.ordinal ≤ l.walk.reader.place) × (length l.table ≡ t) × (Sound was.roll → Sound l.walk.roll)
+    × ((bs : List ℕ) → Sound was.roll → lines_left t was 0 ≡ Ok bs → Left t l.walk l.ordinal l.initial.text l.text bs)
+    × Writes l.initial.text (Some tt) l.text
 
 abbrev pub decreases-records : goal.decreases-records
-decreases-records l = length l.initial.reader.bytes.now - l.reader.place
+decreases-records l = length l.walk.reader.bytes.now - l.walk.reader.place

@@ -14,8 +14,8 @@ invariant-sets l =
     let sized = λ (ps : List ℕ). length ps ≡ size_of s.straight in
     (length l.page ≡ 120) × (size_of l.state.straight ≡ size_of s.straight) × (l.left ≤ most_steps)
     × (Keeps s → AllByRecursion sized (somes (to_come s)) → Keeps l.state × AllByRecursion sized (somes (to_come l.state))
-    × ((pre : List ℕ) × Puts l.initial.out l.at pre (Some l.next) l.out × (pre ++ lines_within l.left l.entries (to_come l.state) ≡ lines_within most_steps l.entries (to_come s))))
-    × Writes l.initial.out l.at (Some l.next) l.out
+    × ((pre : List ℕ) × Puts l.initial.text pre (Some tt) l.text × (pre ++ lines_within l.left l.entries (to_come l.state) ≡ lines_within most_steps l.entries (to_come s))))
+    × Writes l.initial.text (Some tt) l.text
 
 abbrev pub decreases-sets : goal.decreases-sets
 decreases-sets l = l.left
