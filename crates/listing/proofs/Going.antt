@@ -131,7 +131,6 @@ module _ (t : ℕ) (was is : Walk) (r : Rec) where
   takes q moves file done = record {
     file = file;
     place = omega arith;
-    sound = done.sound;
     lines = λ k.
         let now : lines was.roll.columns (room_of was.roll) t (drop is.reader.place was.reader.bytes.now) (standing is.roll) (asked_so_far k r) 0 is.reader.place ≡ lines_left t is (asked_so_far k r) = cc in
         step_on was.roll.columns (room_of was.roll) t was.reader.bytes.now (standing was.roll) k was.reader.place was.positive was.short r (standing is.roll) is.reader.place q moves done.answer

@@ -25,14 +25,14 @@ four-columns (x ∷ xs) = (refl, four-columns xs)
 
 coming_sized : (xs : List Entry) (q : Question) → 1 ≤ q.size → q.size ≤ length xs → AllByRecursion (λ s. length s ≡ q.size) (somes (coming xs q))
 coming_sized xs q some most =
-    let crosses : Crosses 3 (rows_of xs) (row_of q.low) (row_of q.high) q.size = record {
+    let crosses : Crosses 3 (rows_of xs) (row_of q.band.low) (row_of q.band.high) q.size = record {
       entries = four-columns xs;
       low_columns = refl;
       high_columns = refl;
       some = omega arith;
-      room = omega (arith, length-map xs (λ e. row_of e.amounts));
+      room = omega (arith, length-map xs (λ e. row_of e.value));
     } in
-    all_from_in (λ s. length s ≡ q.size) (somes (coming xs q)) (λ s i. (crossed_sound 3 (rows_of xs) (row_of q.low) (row_of q.high) q.size crosses s i).places.size)
+    all_from_in (λ s. length s ≡ q.size) (somes (coming xs q)) (λ s i. (crossed_sound 3 (rows_of xs) (row_of q.band.low) (row_of q.band.high) q.size crosses s i).places.size)
 
 -- those that its Search has to come
 pub starts_sized : (xs : List Entry) (q : Question) (was : List Rank) (s : Search) → 1 ≤ q.size → q.size ≤ length xs → Starts xs q was s → AllByRecursion (λ ps. length ps ≡ size_of s.straight) (somes (to_come s))

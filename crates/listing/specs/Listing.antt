@@ -15,7 +15,7 @@ use Rattle.crossed.specs.Entries.{Entry}
 use Rattle.records.specs.Bytes.{asked_of}
 use Rattle.rollfile.specs.Files.{then, applied, opened}
 use Rattle.rollfile.specs.Writing.{written, output_after}
-use Rattle.crossed.specs.Rolls.{standing, room_of, Sound}
+use Rattle.crossed.specs.Rolls.{standing, room_of}
 use Rattle.crossed.specs.declared.rolls.Roll.{Roll}
 use Rattle.records.specs.Records.{Rec, heading, entering, striking, question, size_of, parsed, located, fault_of}
 use Rattle.records.specs.declared.reader.Fault.{Fault}
@@ -23,7 +23,7 @@ use Rattle.listing.specs.Text.{line}
 
 -- what the Search of a question has to come where xs stand
 abbrev pub coming : List Entry → Question → Trace
-coming xs q = crossed 3 (map (λ e. row_of e.amounts) xs) (row_of q.low) (row_of q.high) q.size
+coming xs q = crossed 3 (map (λ e. row_of e.value) xs) (row_of q.band.low) (row_of q.band.high) q.size
 
 -- the numbers of the entries at the places of a set
 abbrev pub numbers : List Entry → List ℕ → List ℕ

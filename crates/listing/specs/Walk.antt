@@ -1,7 +1,7 @@
 -- Going through the records of a file: what is left of its lines.
 use Rattle.std.specs.Prelude.{◌≡◌, ℕ, ◌<◌, List, [], length, drop, Some, None, Ok, Err, Option, Result}
 use Rattle.crossed.specs.declared.asked.Question.{Question}
-use Rattle.crossed.specs.Rolls.{standing, room_of, Sound}
+use Rattle.crossed.specs.Rolls.{standing, room_of}
 use Rattle.crossing.specs.Asking.{asking}
 use Rattle.records.specs.declared.reader.Fault.{Fault}
 use Rattle.records.specs.declared.reader.Record.{Record}
@@ -15,14 +15,13 @@ lines_left table w k = lines w.roll.columns (room_of w.roll) table (drop w.reade
 
 -- a file is opened over so many cells: all its lines are left, or its heading is at fault
 abbrev pub Opens : ℕ → List ℕ → Result Walk Fault → Type 0
-Opens room file (Ok w) = Sound w.roll × ((table : ℕ) → lines_left table w 0 ≡ lines_of room table file)
+Opens room file (Ok w) = (table : ℕ) → lines_left table w 0 ≡ lines_of room table file
 Opens room file (Err f) = (table : ℕ) → Err f ≡ lines_of room table file
 
 -- a record is read and tried, and is not at fault: its lines come before those that are left then
 pub record Takes (table : ℕ) (was : Walk) (rec : Rec) (is : Walk) : Type 0 where
   pub file : is.reader.bytes.now ≡ was.reader.bytes.now
   pub place : was.reader.place < is.reader.place
-  pub sound : Sound was.roll → Sound is.roll
   pub lines : (k : ℕ) → lines_left table was k ≡ before (record_lines k (standing is.roll) rec) (lines_left table is (asked_so_far k rec))
   pub accepted : (q : Question) → Some q ≡ question_in rec → asking is.roll.columns (length (standing is.roll)) q table ≡ Ok tt
 

@@ -1,6 +1,5 @@
 // The listing of a file. The whole file is tried first, so that the bytes behind an `R` line stay as they were.
 ghost use Rattle.std.specs.Prelude.{◌≡◌, ℕ, List, length, Ok};
-ghost use Rattle.crossed.specs.Rolls.{Sound};
 ghost use Rattle.listing.specs.Exact.{SearchesAreExact};
 ghost use Rattle.listing.specs.Text.{Puts, Writes, Lists};
 ghost use Rattle.listing.specs.Listing.{lines_of, listing as listing_of, fault_in, ListsFile};
@@ -9,7 +8,8 @@ ghost use Rattle.listing.specs.Walk.{lines_left};
 use crate::questions::put_question;
 use crate::text::Text;
 use crate::walk::{Walk, question_of};
-use crossed::entries::{Amounts, Entry};
+use crossed::entering::BLANK;
+use crossed::entries::Entry;
 use crossing::ranks::Ranked;
 use measure::Measure;
 use records::reader::Fault;
@@ -26,7 +26,7 @@ fn faults_in(file: &[u8], cells: &mut [Entry], table: &[Ranked]) -> Result<(), F
 
 // The lines of the questions that are left, in a file that has no fault; none where they do not fit the output.
 fn put_on(text: &mut Text, walk: &mut Walk, table: &mut [Ranked]) -> Option<()>
-    ensures lines { (bs : List ℕ) → Sound walk.old.roll → lines_left (length table.old) walk.old 0 ≡ Ok bs → Puts text.old bs result text.new }
+    ensures lines { (bs : List ℕ) → lines_left (length table.old) walk.old 0 ≡ Ok bs → Puts text.old bs result text.new }
     ensures writes { Writes text.old result text.new }
 {
     let mut ordinal = 0usize;
@@ -80,16 +80,7 @@ pub fn list(file: &[u8], out: &mut [u8]) -> Result<usize, Refusal>
     ensures lines { ListsFile file.now out.old result out.new }
     ensures searches { SearchesAreExact }
 {
-    let zero = Amounts {
-        first: 0,
-        second: 0,
-        third: 0,
-        fourth: 0,
-    };
-    let mut cells = [Entry {
-        number: 0,
-        amounts: zero,
-    }; 120];
+    let mut cells = [BLANK; 120];
     let mut table = [Ranked::nothing(); 1600];
     let mut text = Text::new(out);
     let put = put_listing(&mut text, file, &mut cells, &mut table);

@@ -3,7 +3,7 @@ ghost use Rattle.std.specs.Prelude.{◌≡◌, ◌-◌, ◌≤◌, min, map, len
 ghost use Rattle.std.specs.List.{AllByRecursion};
 ghost use Rattle.sets.specs.Trace.{somes};
 ghost use Rattle.exploring.specs.Meaning.{size_of};
-ghost use Rattle.crossed.specs.Rolls.{standing, Sound};
+ghost use Rattle.crossed.specs.Rolls.{standing};
 ghost use Rattle.crossing.specs.Asking.{asking};
 ghost use Rattle.crossing.specs.Meaning.{Keeps, to_come};
 ghost use Rattle.listing.specs.Text.{Puts, Writes};
@@ -68,7 +68,7 @@ pub(crate) fn put_question(
     asked: Question,
     table: &mut [Ranked],
 ) -> Option<()>
-    ensures lines { asking roll.now.columns (length (standing roll.now)) asked (length table.old) ≡ Ok tt → Sound roll.now → Puts text.old (question_lines ordinal (standing roll.now) asked) result text.new }
+    ensures lines { asking roll.now.columns (length (standing roll.now)) asked (length table.old) ≡ Ok tt → Puts text.old (question_lines ordinal (standing roll.now) asked) result text.new }
     ensures writes { Writes text.old result text.new }
 {
     text.line(b'Q', ordinal, asked.size)?;

@@ -4,8 +4,9 @@ ghost use Rattle.records.specs.Records.{plain};
 ghost use Rattle.listing.specs.Listing.{question_in, is_question as asks, fault_in, Tried};
 
 use crossed::asked::Question;
+use crossed::entering::open;
 use crossed::entries::Entry;
-use crossed::rolls::{Roll, open};
+use crossed::rolls::Roll;
 use crossing::asking::check;
 use crossing::ranks::Ranked;
 use records::decoding::asked_in;

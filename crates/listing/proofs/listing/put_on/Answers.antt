@@ -9,7 +9,7 @@ use Rattle.listing.proofs.Written.{writes_then}
 use Rattle.listing.proofs.listing.put_on.Goals as goal
 
 pub returns-in_err-put_question-clause-lines : goal.returns-in_err-put_question-clause-lines
-returns-in_err-put_question-clause-lines c = λ bs sound whole.
+returns-in_err-put_question-clause-lines c = λ bs whole.
     let l = c.records in
     let r = plain c.in-Ok-Some.item in
     let is = c.step.new.self in
@@ -18,10 +18,10 @@ returns-in_err-put_question-clause-lines c = λ bs sound whole.
     let e = c.put_question.new.text in
     let takes = rw c.in-Ok-Some.field-0-is at c.in-Ok-Some.ensures in
     let one : c.saturating_add-ordinal.result ≡ suc l.ordinal = omega (arith, c.saturating_add-ordinal.ensures, l.invariant.0, l.walk.inside, l.walk.short) in
-    let puts : Puts l.text (question_lines (suc l.ordinal) (standing is.roll) q) None e = subst (λ k. Puts l.text (question_lines k (standing is.roll) q) None e) one (c.in_err-put_question.ensures.lines (takes.accepted q c.in-Some.ensures) (takes.sound (l.invariant.2 sound))) in
+    let puts : Puts l.text (question_lines (suc l.ordinal) (standing is.roll) q) None e = subst (λ k. Puts l.text (question_lines k (standing is.roll) q) None e) one (c.in_err-put_question.ensures.lines (takes.accepted q c.in-Some.ensures)) in
     let none : c.from_residual.result ≡ None = search rules in
     subst (λ a. Puts c.args.text.now bs a e) (sym none)
-    (left_stop t l.walk l.ordinal c.args.text.now l.text bs (l.invariant.3 bs sound whole) r is (subst (λ n. Takes n l.walk r is) l.invariant.1 takes) q c.in-Some.ensures e puts)
+    (left_stop t l.walk l.ordinal c.args.text.now l.text bs (l.invariant.2 bs whole) r is (subst (λ n. Takes n l.walk r is) l.invariant.1 takes) q c.in-Some.ensures e puts)
 
 pub records-preserved : goal.records-preserved
 records-preserved c =
@@ -36,10 +36,9 @@ records-preserved c =
     let one : c.saturating_add-ordinal.result ≡ suc l.ordinal = omega (arith, c.saturating_add-ordinal.ensures, l.invariant.0, l.walk.inside, l.walk.short) in (
       omega (arith, one, further, l.invariant.0),
       c.put_question.auto.table ∙ l.invariant.1,
-      (λ s. takes.sound (l.invariant.2 s)),
-      λ bs sound whole.
-          let puts : Puts l.text (question_lines (suc l.ordinal) (standing is.roll) q) (Some tt) e = subst (λ k. Puts l.text (question_lines k (standing is.roll) q) (Some tt) e) one (c.in_ok-put_question.ensures.lines (takes.accepted q c.in-Some.ensures) (takes.sound (l.invariant.2 sound))) in
+      λ bs whole.
+          let puts : Puts l.text (question_lines (suc l.ordinal) (standing is.roll) q) (Some tt) e = subst (λ k. Puts l.text (question_lines k (standing is.roll) q) (Some tt) e) one (c.in_ok-put_question.ensures.lines (takes.accepted q c.in-Some.ensures)) in
           subst (λ k. Left t is k c.args.text.now e bs) (sym one)
-          (left_on t l.walk l.ordinal c.args.text.now l.text bs (l.invariant.3 bs sound whole) r is (subst (λ n. Takes n l.walk r is) l.invariant.1 takes) q c.in-Some.ensures e puts),
-      writes_then c.args.text.now l.text e (Some tt) l.invariant.4 c.in_ok-put_question.ensures.writes,
+          (left_on t l.walk l.ordinal c.args.text.now l.text bs (l.invariant.2 bs whole) r is (subst (λ n. Takes n l.walk r is) l.invariant.1 takes) q c.in-Some.ensures e puts),
+      writes_then c.args.text.now l.text e (Some tt) l.invariant.3 c.in_ok-put_question.ensures.writes,
     )

@@ -1,5 +1,4 @@
 use Rattle.std.proofs.Common.{◌≡◌, ℕ, ◌-◌, ◌≤◌, List, length, Some, Ok}
-use Rattle.crossed.specs.Rolls.{Sound}
 use Rattle.listing.specs.Text.{Writes}
 use Rattle.listing.specs.Walk.{lines_left}
 use Rattle.listing.proofs.Putting.{Left}
@@ -10,8 +9,8 @@ abbrev pub invariant-records : goal.invariant-records
 invariant-records l =
     let was = l.initial.walk in
     let t = length l.initial.table in
-    (l.ordinal ≤ l.walk.reader.place) × (length l.table ≡ t) × (Sound was.roll → Sound l.walk.roll)
-    × ((bs : List ℕ) → Sound was.roll → lines_left t was 0 ≡ Ok bs → Left t l.walk l.ordinal l.initial.text l.text bs)
+    (l.ordinal ≤ l.walk.reader.place) × (length l.table ≡ t)
+    × ((bs : List ℕ) → lines_left t was 0 ≡ Ok bs → Left t l.walk l.ordinal l.initial.text l.text bs)
     × Writes l.initial.text (Some tt) l.text
 
 abbrev pub decreases-records : goal.decreases-records

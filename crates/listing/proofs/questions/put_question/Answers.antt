@@ -1,6 +1,6 @@
-use Rattle.std.proofs.Common.{◌≤◌, min, [], ◌∷◌, length, subst, arith, length-take}
+use Rattle.std.proofs.Common.{[], ◌∷◌, length, subst}
 use Rattle.crossed.specs.Rolls.{standing}
-use Rattle.crossed.proofs.Kept.{always_well_formed}
+use Rattle.crossed.proofs.Kept.{well_formed}
 use Rattle.crossing.specs.Beginning.{BeginsBy}
 use Rattle.crossing.specs.Meaning.{to_come}
 use Rattle.crossing.proofs.Accepting.{accepted_fits}
@@ -11,15 +11,14 @@ use Rattle.listing.proofs.Sized.{starts_sized}
 use Rattle.listing.proofs.questions.put_question.Goals as goal
 
 pub returns-clause-lines : goal.returns-clause-lines
-returns-clause-lines c = λ accepted sound.
+returns-clause-lines c = λ accepted.
     let roll = c.args.roll.now in
     let xs = standing roll in
     let q = c.args.asked in
     let was = c.args.table.now in
     let s = c.begin-state.result in
-    let few : length xs ≤ 120 = omega (arith, length-take (min 120 roll.count) roll.cells.now) in
-    let fits = accepted_fits roll.columns (length xs) q (length was) few accepted in
-    let starts = subst (BeginsBy roll.columns xs q was s) accepted c.begin-state.ensures (always_well_formed roll.columns xs sound) in
+    let fits = accepted_fits roll.columns (length xs) q (length was) (well_formed roll).2 accepted in
+    let starts = subst (BeginsBy roll.columns xs q was s) accepted c.begin-state.ensures in
     let sized = starts_sized xs q was s fits.some fits.most starts in
     let puts : Puts c.line.new.self (sets_lines xs (coming xs q)) c.put_sets.result c.put_sets.new.text =
     subst (λ t. Puts c.line.new.self (sets_lines xs t) c.put_sets.result c.put_sets.new.text) starts.comes
