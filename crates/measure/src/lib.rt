@@ -94,6 +94,13 @@ pub struct Pair<A, B> {
     pub second: B,
 }
 
+// A band of values: from a low end to a high one, both counted in.
+#[derive(Clone, Copy)]
+pub struct Band<M> {
+    pub low: M,
+    pub high: M,
+}
+
 impl<A: Measure, B: Measure> Measure for Pair<A, B> {
     ghost algebra = { joined A.Measure.algebra B.Measure.algebra };
 

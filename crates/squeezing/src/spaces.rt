@@ -4,7 +4,7 @@ ghost use Rattle.squeezing.specs.Frames.{Leaves};
 use crate::frame::Frame;
 use crate::passes::squeeze;
 use crate::table::column_start;
-use measure::Measure;
+use measure::{Band, Measure};
 
 // What squeezing leaves of a space between two ends, if it leaves any set. `room` is for the totals of one pass. Where the
 // table or the room is too short for the space, nothing is left.
@@ -12,10 +12,9 @@ pub fn squeezed<M: Measure>(
     frame: Frame,
     table: &[M],
     room: &mut [M],
-    low: M,
-    high: M,
+    band: Band<M>,
 ) -> Option<Frame>
-    ensures { Leaves M.algebra M.Measure.row M.span table.now (length room.old) (M.Measure.row low) (M.Measure.row high) frame result }
+    ensures { Leaves M.algebra M.Measure.row M.span table.now (length room.old) (M.Measure.row band.low) (M.Measure.row band.high) frame result }
 {
     let Frame {
         n,
@@ -29,7 +28,15 @@ pub fn squeezed<M: Measure>(
     if room.len() <= m {
         return None;
     }
-    if squeeze(table, n, &mut lo[0..m], &mut hi[0..m], room, low, high) {
+    if squeeze(
+        table,
+        n,
+        &mut lo[0..m],
+        &mut hi[0..m],
+        room,
+        band.low,
+        band.high,
+    ) {
         Some(Frame { n, m, lo, hi })
     } else {
         None
