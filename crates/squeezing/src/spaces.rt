@@ -28,15 +28,8 @@ pub fn squeezed<M: Measure>(
     if room.len() <= m {
         return None;
     }
-    if squeeze(
-        table,
-        n,
-        &mut lo[0..m],
-        &mut hi[0..m],
-        room,
-        band.low,
-        band.high,
-    ) {
+    let Band { low, high } = band;
+    if squeeze(table, n, &mut lo[0..m], &mut hi[0..m], room, low, high) {
         Some(Frame { n, m, lo, hi })
     } else {
         None
