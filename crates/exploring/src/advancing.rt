@@ -20,25 +20,28 @@ impl<'t, M: Measure> Search<'t, M> {
         if page.len() < self.work.frontier.root.m {
             return Err(Refusal::ShortPage);
         }
-        let mut steps = 0;
-        'steps: while self.work.frontier.waits() {
-            if steps == allowance {
+        'steps: for steps in 0..allowance {
+            if !self.work.frontier.waits() {
                 return Ok(Answer {
-                    told: Told::Spent,
+                    told: Told::Finished,
                     steps,
                 });
             }
-            steps += 1;
             if examine(self.table, &mut self.work, page) {
                 return Ok(Answer {
                     told: Told::Set,
-                    steps,
+                    steps: steps + 1,
                 });
             }
         }
+        let told = if self.work.frontier.waits() {
+            Told::Spent
+        } else {
+            Told::Finished
+        };
         Ok(Answer {
-            told: Told::Finished,
-            steps,
+            told,
+            steps: allowance,
         })
     }
 }

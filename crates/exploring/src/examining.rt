@@ -1,6 +1,6 @@
 ghost use Rattle.std.specs.Prelude.{◌≡◌, ◌+◌, ◌<◌, ◌≤◌, false, ◌++◌, length, drop};
 ghost use Rattle.squeezing.specs.Table.{Holds, offset};
-ghost use Rattle.exploring.specs.Waiting.{items_of, Ready, Examined};
+ghost use Rattle.exploring.specs.Waiting.{left_of, Ready, Examined};
 
 use crate::opening::first_open;
 use crate::work::Work;
@@ -21,13 +21,13 @@ pub(crate) fn examine<M: Measure>(table: &[M], work: &mut Work<M>, page: &mut [u
     requires ready { Ready work.old.frontier }
     requires room { work.old.frontier.root.m ≤ length page.old }
     ensures root { work.new.frontier.root ≡ work.old.frontier.root }
-    ensures ends { (work.new.low ≡ work.old.low) × (work.new.high ≡ work.old.high) }
+    ensures band { work.new.band ≡ work.old.band }
     ensures still { result ≡ false → page.new ≡ page.old }
     ensures beyond { drop work.old.frontier.root.m page.new ≡ drop work.old.frontier.root.m page.old }
-    ensures is { Holds M.algebra M.Measure.row M.span work.old.frontier.root.n work.old.frontier.root.m table.now → Examined result page.old page.new (items_of M.algebra M.Measure.row table.now (M.Measure.row work.old.low) (M.Measure.row work.old.high) work.old.frontier) (items_of M.algebra M.Measure.row table.now (M.Measure.row work.old.low) (M.Measure.row work.old.high) work.new.frontier) }
+    ensures is { Holds M.algebra M.Measure.row M.span work.old.frontier.root.n work.old.frontier.root.m table.now → Examined result page.old page.new (left_of M.algebra M.Measure.row table.now work.old) (left_of M.algebra M.Measure.row table.now work.new) }
 {
     let space = work.frontier.take();
-    let Some(left) = squeezed(space, table, &mut work.room, work.low, work.high) else {
+    let Some(left) = squeezed(space, table, &mut work.room, work.band) else {
         return false;
     };
     let Some(i) = first_open(&left) else {

@@ -1,5 +1,7 @@
-ghost use Rattle.std.specs.Prelude.{◌≡◌, ℕ, ◌+◌, ◌<◌, ◌≤◌, slice_index};
+ghost use Rattle.std.specs.Prelude.{◌+◌, ◌<◌, ◌≤◌, slice_index};
+ghost use Rattle.exploring.specs.Settled.{SettledBelow};
 
+use crate::whole::whole;
 use squeezing::frame::Frame;
 
 // A squeezed space, the index of its first open position, and the next place to try there.
@@ -11,5 +13,16 @@ pub struct Level {
     ghost within: { at < frame.m },
     ghost least: { slice_index frame.lo at ≤ next },
     ghost most: { next ≤ slice_index frame.hi at + 1 },
-    ghost settled: { (j : ℕ) → j < at → slice_index frame.lo j ≡ slice_index frame.hi j },
+    ghost settled: { SettledBelow frame at },
+}
+
+// What stands where no level is.
+impl Default for Level {
+    fn default() -> Level {
+        Level {
+            frame: whole(1, 1),
+            at: 0,
+            next: 1,
+        }
+    }
 }

@@ -3,6 +3,4 @@ use Rattle.exploring.proofs.Rooting.{begins}
 use Rattle.exploring.proofs.frontier.Frontier.restart.Goals as goal
 
 pub returns : goal.returns
-returns c =
-    let f = c.args.self.now in
-    record { root = refl; items = λ e. begins e f.root f.root.n f.root.m refl f.lowest f.highest }
+returns c = let f = c.args.self.now in record { root = refl; items = λ e. begins e f.root _ f.root.n f.root.m c.clear.ensures refl f.lowest f.highest }

@@ -9,8 +9,8 @@ returns g c =
     let m = g.M.Measure in
     let s = c.args.self.now in
     let f = s.work.frontier.root in
-    let low = m.row c.args.low in
-    let high = m.row c.args.high in
+    let low = m.row c.args.band.low in
+    let high = m.row c.args.band.high in
     let table = s.table.now in
     let again = c.restart.ensures in
     record {
