@@ -1,11 +1,13 @@
 -- A run over the items to come, one step at a time.
-use Rattle.std.proofs.Common.{◌≡◌, ℕ, zero, suc, ◌+◌, ◌-◌, ◌<◌, ◌≤◌, Bool, true, false, cond, List, [], ◌∷◌, ◌++◌, length, get_or, take, Some, None, Option, sym, refl, ap, ◌∙◌, subst, arith}
+use Rattle.std.proofs.Common.{◌≡◌, ℕ, zero, suc, ◌+◌, ◌-◌, ◌<◌, ◌≤◌, Bool, true, false, cond, List, [], ◌∷◌, ◌++◌, length, get_or, take, drop, Some, None, Option, sym, refl, ap, ◌∙◌, subst, arith}
 use Rattle.exploring.specs.declared.level.Level.{Level}
 use Rattle.exploring.specs.declared.frontier.Frontier.{Frontier}
 use Rattle.measure.specs.Algebra.{Algebra, Row}
 use Rattle.sets.specs.Spaces.{Space, at, child, open_at, squeeze, widths}
 use Rattle.sets.specs.Trace.{Item, Trace, children, explore}
-use Rattle.sets.specs.Advance.{set, spent, run}
+use Rattle.sets.specs.Advance.{set, spent, finished, run}
+use Rattle.exploring.specs.declared.state.Told.TheVariants.{Set, Spent, Finished}
+use Rattle.exploring.specs.Meaning.{Ran}
 use Rattle.squeezing.specs.Frames.{space_of}
 use Rattle.exploring.specs.Waiting.{stacked, level_items, depth_of, to_come, Ready}
 use Rattle.exploring.proofs.Explored.{opened, examined}
@@ -78,3 +80,19 @@ module _ (a : Algebra) (xs : List Row) (low high : Row) where
 
   pub ready_more : (f : Frontier) → Ready f → More (to_come (explore a xs low high) f)
   ready_more f ready = ready_go f f.fresh refl ready
+
+-- what an advance tells, by how it ended: with no item left
+pub ran_finished : (all items : Trace) (allowance left steps : ℕ) (page page' : List ℕ) → run all allowance 0 ≡ run items left steps → items ≡ [] → page' ≡ page → Ran (run all allowance 0) (record { told = Finished; steps = steps }) page page' items
+ran_finished all items allowance left steps page page' e none same =
+    let whole : run all allowance 0 ≡ record { end = finished; steps = steps; rest = [] } = e ∙ ap (λ l. run l left steps) none in
+    subst (λ w. Ran w (record { told = Finished; steps = steps }) page page' items) (sym whole) (record { told = refl; steps = refl; page_is = same; rest = none })
+
+-- with an item left, and nothing of the allowance
+pub ran_spent : (all items : Trace) (allowance left steps : ℕ) (page page' : List ℕ) → run all allowance 0 ≡ run items left steps → More items → left ≡ 0 → page' ≡ page → Ran (run all allowance 0) (record { told = Spent; steps = steps }) page page' items
+ran_spent all items allowance left steps page page' e more none same =
+    subst (λ w. Ran w (record { told = Spent; steps = steps }) page page' items) (sym (e ∙ run_spent items left steps more none)) (record { told = refl; steps = refl; page_is = same; rest = refl })
+
+-- with a set
+pub ran-set : (all items rest left' : Trace) (ps : List ℕ) (allowance left steps : ℕ) (page page' : List ℕ) → run all allowance 0 ≡ run items left steps → items ≡ Some ps ∷ rest → 0 < left → page' ≡ ps ++ drop (length ps) page → left' ≡ rest → Ran (run all allowance 0) (record { told = Set; steps = steps + 1 }) page page' left'
+ran-set all items rest left' ps allowance left steps page page' e first more wrote same =
+    subst (λ w. Ran w (record { told = Set; steps = steps + 1 }) page page' left') (sym (e ∙ run-set items rest ps left steps first more)) (record { told = refl; steps = refl; page_is = wrote; rest = same })

@@ -58,12 +58,17 @@ module _ {M : Type 0} (a : Algebra) (row : M → Row) (table : List M) (low high
   pub root_same : (f f' : Frontier) → f'.root ≡ f.root → to_come (explore_of a row f.root.n table low high) f' ≡ items_of a row table low high f'
   root_same f f' e = ap (λ q. to_come (explore_of a row q.n table low high) f') (sym e)
 
+  -- asking whether a space waits changes nothing of what is to come
+  pub waited : (f f' : Frontier) → f'.root ≡ f.root → ((e : ℕ → Space → Trace) → to_come e f' ≡ to_come e f) → items_of a row table low high f ≡ items_of a row table low high f'
+  waited f f' root items = sym (items (explore_of a row f.root.n table low high)) ∙ root_same f f' root
+
   -- the first item of the next space is the first to come
   pub first_item : (f : Frontier) (depth : ℕ) (s : Space) (x : Item) (more rest : Trace) → depth ≤ f.root.m → items_of a row table low high f ≡ explore_of a row f.root.n table low high (f.root.m + 1 - depth) s ++ rest → explore_of a row f.root.n table low high (suc (f.root.m - depth)) s ≡ x ∷ more → items_of a row table low high f ≡ x ∷ (more ++ rest)
   first_item f depth s x more rest deep e first =
       let fuel : f.root.m + 1 - depth ≡ suc (f.root.m - depth) = omega arith in
       e ∙ ap (λ k. explore_of a row f.root.n table low high k s ++ rest) fuel ∙ ap (λ l. l ++ rest) first
 
--- the same items, with the ends by other names
-pub ends_same : {M : Type 0} (a : Algebra) (row : M → Row) (table : List M) (f : Frontier) (low low' high high' : M) → low' ≡ low → high' ≡ high → items_of a row table (row low) (row high) f ≡ items_of a row table (row low') (row high') f
-ends_same a row table f low low' high high' el eh = ap (λ l. items_of a row table (row l) (row high) f) (sym el) ∙ ap (λ h. items_of a row table (row low') (row h) f) (sym eh)
+-- a table that holds its totals holds them for a root by another name
+pub held_of : {M : Type 0} (a : Algebra) (row : M → Row) (span : M → ℕ) (table table' : List M) (r r' : Frame) → table' ≡ table → r' ≡ r → Holds a row span r.n r.m table → Holds a row span r'.n r'.m table'
+held_of a row span table table' r r' t e held =
+    subst (λ (q : Frame). Holds a row span q.n q.m table') (sym e) (subst (λ q. Holds a row span r.n r.m q) (sym t) held)

@@ -4,7 +4,7 @@ use Rattle.std.proofs.lemmas.List.{length-take-le, drop_at}
 use Rattle.std.proofs.lemmas.Bool.{true≢false, cases_lt}
 use Rattle.sets.specs.Trace.{children}
 use Rattle.squeezing.specs.Frames.{space_of}
-use Rattle.exploring.specs.Waiting.{explore_of, to_come}
+use Rattle.exploring.specs.Waiting.{depth_of, explore_of, to_come}
 use Rattle.exploring.proofs.Stepping.{suited, step_none, step_set, step_open, root_same, first_item}
 use Rattle.exploring.proofs.examining.examine.Goals as goal
 
@@ -16,20 +16,20 @@ returns-in_default g c =
     let f1 = c.take-space.new.self in
     let r = c.take-space.result in
     let told = c.take-space.ensures in
-    let low = m.row c.args.work.now.low in
-    let high = m.row c.args.work.now.high in
+    let low = m.row c.args.work.now.band.low in
+    let high = m.row c.args.work.now.band.high in
     let E = explore_of m.algebra m.row f.root.n table low high in
-    let deep : f1.depth ≤ f.root.m = omega (arith, f1.deep, ap (λ q. q.m) told.root.0) in
+    let deep : depth_of f1 ≤ f.root.m = omega (arith, f1.deep, ap (λ q. q.m) told.root.0) in
     record {
       root = told.root.0;
-      ends = (refl, refl);
+      band = refl;
       still = λ _. refl;
       beyond = refl;
       is = λ held.
           let long : 120 < length c.args.work.now.room = omega arith in
           let suits = suited m.algebra m.row m.span table (length c.args.work.now.room) f.root r told.same.1 told.same.0 c.requires.sized long held in
-          let head = step_none m.algebra m.row table low high r f.root.n told.same.1 (f.root.m - f1.depth) (c.in_default.ensures suits) in (
-            first_item m.algebra m.row table low high f f1.depth (space_of r) None [] (to_come E f1) deep (told.items E) head
+          let head = step_none m.algebra m.row table low high r f.root.n told.same.1 (f.root.m - depth_of f1) (c.in_default.ensures suits) in (
+            first_item m.algebra m.row table low high f (depth_of f1) (space_of r) None [] (to_come E f1) deep (told.items E) head
                 ∙ ap (λ l. None ∷ l) (root_same m.algebra m.row table low high f f1 told.root.0),
             refl,
           );
@@ -44,10 +44,10 @@ returns-in_default-first_open g c =
     let r = c.take-space.result in
     let t = c.in-Some.left in
     let told = c.take-space.ensures in
-    let low = m.row c.args.work.now.low in
-    let high = m.row c.args.work.now.high in
+    let low = m.row c.args.work.now.band.low in
+    let high = m.row c.args.work.now.band.high in
     let E = explore_of m.algebra m.row f.root.n table low high in
-    let deep : f1.depth ≤ f.root.m = omega (arith, f1.deep, ap (λ q. q.m) told.root.0) in
+    let deep : depth_of f1 ≤ f.root.m = omega (arith, f1.deep, ap (λ q. q.m) told.root.0) in
     let lows : length t.lo ≡ 120 = omega arith in
     let ps = take t.m t.lo in
     let z : t.m - 0 ≡ t.m = sub-zero t.m in
@@ -55,15 +55,15 @@ returns-in_default-first_open g c =
     let many : length ps ≡ f.root.m = length-take-le t.m t.lo (omega (arith, t.small)) ∙ c.in-Some.ensures.0.m ∙ told.same.0 in
     record {
       root = told.root.0;
-      ends = (refl, refl);
+      band = refl;
       still = λ e. absurd (true≢false e);
       beyond = ap (drop f.root.m) wrote ∙ ap (λ k. drop k (ps ++ drop (length ps) c.args.page.now)) (sym many) ∙ drop_at ps (drop (length ps) c.args.page.now) (length ps) refl ∙ ap (λ k. drop k c.args.page.now) many;
       is = λ held.
           let long : 120 < length c.args.work.now.room = omega arith in
           let suits = suited m.algebra m.row m.span table (length c.args.work.now.room) f.root r told.same.1 told.same.0 c.requires.sized long held in
-          let head = step_set m.algebra m.row table low high r f.root.n told.same.1 (f.root.m - f1.depth) t (c.in-Some.ensures.1 suits) c.in_default-first_open.ensures in (
+          let head = step_set m.algebra m.row table low high r f.root.n told.same.1 (f.root.m - depth_of f1) t (c.in-Some.ensures.1 suits) c.in_default-first_open.ensures in (
             ps,
-            first_item m.algebra m.row table low high f f1.depth (space_of r) (Some ps) [] (to_come E f1) deep (told.items E) head
+            first_item m.algebra m.row table low high f (depth_of f1) (space_of r) (Some ps) [] (to_come E f1) deep (told.items E) head
                 ∙ ap (λ l. Some ps ∷ l) (root_same m.algebra m.row table low high f f1 told.root.0),
             wrote,
           );
@@ -81,26 +81,26 @@ returns g c =
     let i = c.in-Some-first_open.i in
     let told = c.take-space.ensures in
     let opens = c.in-Some-first_open.ensures in
-    let low = m.row c.args.work.now.low in
-    let high = m.row c.args.work.now.high in
+    let low = m.row c.args.work.now.band.low in
+    let high = m.row c.args.work.now.band.high in
     let E = explore_of m.algebra m.row f.root.n table low high in
-    let deep : f1.depth ≤ f.root.m = omega (arith, f1.deep, ap (λ q. q.m) told.root.0) in
+    let deep : depth_of f1 ≤ f.root.m = omega (arith, f1.deep, ap (λ q. q.m) told.root.0) in
     let lows : length t.lo ≡ 120 = search rules in
     let highs : length t.hi ≡ 120 = search rules in
     let root : f2.root ≡ f.root = c.push.ensures.root ∙ told.root.0 in
     record {
       root = root;
-      ends = (refl, refl);
+      band = refl;
       still = λ _. refl;
       beyond = refl;
       is = λ held.
           let long : 120 < length c.args.work.now.room = omega arith in
           let suits = suited m.algebra m.row m.span table (length c.args.work.now.room) f.root r told.same.1 told.same.0 c.requires.sized long held in
-          let d = f.root.m - f1.depth in
+          let d = f.root.m - depth_of f1 in
           let below = children (E d) (space_of t) (i + 1) (get_or t.lo i 0) in
           let head = step_open m.algebra m.row table low high r f.root.n told.same.1 d t i lows highs (c.in-Some.ensures.1 suits) opens.0 opens.1 opens.2 in
-          let pushed : to_come E f2 ≡ below ++ to_come E f1 = c.push.ensures.items E ∙ ap (λ q. children (E (q.m - f1.depth)) (space_of t) (i + 1) (get_or t.lo i 0) ++ to_come E f1) told.root.0 in (
-            first_item m.algebra m.row table low high f f1.depth (space_of r) None below (to_come E f1) deep (told.items E) head
+          let pushed : to_come E f2 ≡ below ++ to_come E f1 = c.push.ensures.items E ∙ ap (λ q. children (E (q.m - depth_of f1)) (space_of t) (i + 1) (get_or t.lo i 0) ++ to_come E f1) told.root.0 in (
+            first_item m.algebra m.row table low high f (depth_of f1) (space_of r) None below (to_come E f1) deep (told.items E) head
                 ∙ ap (λ l. None ∷ l) (sym pushed)
                 ∙ ap (λ l. None ∷ l) (root_same m.algebra m.row table low high f f2 root),
             refl,
@@ -118,6 +118,6 @@ push-requires g c =
     record {
       old = told.root.1;
       same = (left.m ∙ told.same.0 ∙ ap (λ q. q.m) (sym told.root.0), left.n ∙ told.same.1 ∙ ap (λ q. q.n) (sym told.root.0));
-      «open» = (⊎_elim (λ h. absurd (omega (arith, opens.1, left.settled i (omega (arith, opens.0, left.m)) (told.settled i h)))) (λ h. h) (cases_lt i f1.depth), opens.0);
+      «open» = (⊎_elim (λ h. absurd (omega (arith, opens.1, left.settled i (omega (arith, opens.0, left.m)) (told.settled i h)))) (λ h. h) (cases_lt i (depth_of f1)), opens.0);
       settled = opens.2;
     }

@@ -1,8 +1,6 @@
-use Rattle.std.proofs.Common.{rules, ◌≡◌, ℕ, ◌<◌, ◌≤◌, length, get_or, take, None, Some, Option, sym, ap, ◌∙◌, subst, arith, MatchOption}
+use Rattle.std.proofs.Common.{rules, ℕ, ◌<◌, ◌≤◌, take, arith}
 use borrow.Author.Tests.{tests}
 use Rattle.std.proofs.lemmas.Iterator.{IsFirst-from_position, YieldsList-from_zip, YieldsList-from_slice}
-use Rattle.std.proofs.lemmas.List.{length-take-le}
-use Rattle.std.specs.List.{zip, AllWithin, HoldsAt}
 use Rattle.exploring.proofs.Opened.{first_opens}
 use Rattle.exploring.proofs.opening.first_open.Goals as goal
 

@@ -1,4 +1,4 @@
-use Rattle.std.proofs.Common.{◌≡◌, ℕ, ◌+◌, ◌-◌, ◌<◌, List, get_or, arith}
+use Rattle.std.proofs.Common.{◌+◌, arith}
 use Rattle.exploring.proofs.whole.whole.Goals as goal
 
 pub invariant_of-result : goal.invariant_of-result

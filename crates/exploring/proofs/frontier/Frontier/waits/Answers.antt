@@ -1,7 +1,6 @@
 use Rattle.std.proofs.Common.{◌≡◌, ◌+◌, ◌-◌, ◌<◌, cond, [], ◌++◌, length, get_or, sym, ap, ◌∙◌, arith}
 use Rattle.sets.specs.Spaces.{at}
 use Rattle.squeezing.specs.Frames.{space_of}
-use Rattle.exploring.specs.declared.level.Level.{Level}
 use Rattle.exploring.specs.Waiting.{level_items, stacked}
 use Rattle.exploring.proofs.Stacking.{popped_items, children_none, at_front}
 use Rattle.exploring.proofs.frontier.Frontier.waits.Goals as goal
