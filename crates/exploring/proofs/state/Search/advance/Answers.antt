@@ -41,17 +41,6 @@ returns-else-waits-clause-is g c = λ held.
     let s = c.steps.self in
     ran_finished _ _ c.args.allowance 0 c.args.allowance _ _ (stopping g (goal.at.returns-else-waits-clause-is g c).After-waits-2 held) (c.waits-2.ensures.none c.if-waits.false (explore_of m.algebra m.row c.waits-2.new.self.root.n s.table.now (m.row s.work.band.low) (m.row s.work.band.high))) c.steps.invariant.page
 
-pub returns-then-not-waits-clause-is : goal.returns-then-not-waits-clause-is
-returns-then-not-waits-clause-is g c = λ held.
-    let m = g.M.Measure in
-    let s = c.steps.self in
-    ran_finished _ _ c.args.allowance (c.args.allowance - c.steps.steps) c.steps.steps _ _ (going_on g (goal.at.returns-then-not-waits-clause-is g c).After-waits held) (c.waits.ensures.none c.if-not-waits.true (explore_of m.algebra m.row c.waits.new.self.root.n s.table.now (m.row s.work.band.low) (m.row s.work.band.high))) c.steps.invariant.page
-
-pub returns-then-examine-clause-beyond : goal.returns-then-examine-clause-beyond
-returns-then-examine-clause-beyond g c =
-    let many : c.waits.new.self.root.m ≡ c.args.self.now.work.frontier.root.m = ap (λ q. q.m) (c.waits.ensures.root ∙ c.steps.invariant.root) in
-    ap (λ k. drop k c.examine.new.page) (sym many) ∙ c.examine.ensures.beyond ∙ ap (λ k. drop k c.steps.page) many ∙ ap (drop c.args.self.now.work.frontier.root.m) c.steps.invariant.page
-
 pub returns-then-examine-clause-is : goal.returns-then-examine-clause-is
 returns-then-examine-clause-is g c = λ held.
     let m = g.M.Measure in
