@@ -1,7 +1,7 @@
 -- The items of spaces on the way down: one more, the top one, and its next child.
-use Rattle.std.proofs.Common.{◌≡◌, ℕ, suc, ◌+◌, ◌-◌, ◌<◌, ◌≤◌, Bool, false, cond, List, [], ◌∷◌, ◌++◌, length, get_or, take, drop, set, sym, refl, ap, ◌∙◌, append_assoc, append-nil, arith}
+use Rattle.std.proofs.Common.{◌≡◌, ℕ, zero, suc, ◌+◌, ◌-◌, ◌<◌, ◌≤◌, Bool, false, cond, List, [], ◌∷◌, ◌++◌, length, get_or, take, drop, set, sym, refl, ap, ◌∙◌, subst, append_assoc, append-nil, arith}
 use Rattle.std.specs.List.{range_with_len, refill}
-use Rattle.std.proofs.lemmas.List.{take_all, take_at, take_more, take_more_set, length-set, length-take-le, get_or-take}
+use Rattle.std.proofs.lemmas.List.{take_all, take_at, take_more, take_more_set, length-set, length-take, length-take-le, get_or-take}
 use Rattle.sets.specs.Spaces.{Space, at, child}
 use Rattle.sets.specs.Trace.{Trace, concat_map, children}
 use Rattle.exploring.specs.Waiting.{stacked}
@@ -88,6 +88,18 @@ module _ {A : Type 0} (first : Trace) (f : ℕ → A → Trace) (m : ℕ) (level
   pub popped_items : (x : A) (fresh : Bool) → 0 < length levels → f (m - (length levels - 1)) (get_or levels (length levels - 1) x) ≡ [] → cond fresh first [] ++ stacked f m (take (length levels - 1) levels) ≡ cond fresh first [] ++ stacked f m levels
   popped_items x fresh h e =
       ap (λ y. cond fresh first [] ++ y) (sym (top_is f m levels h x ∙ ap (λ y. y ++ stacked f m (take (length levels - 1) levels)) e))
+
+-- what holds of each level holds with one more, or without the last ones
+pub each_pushed : {A : Type 0} (P : ℕ → A → Type 0) (ls : List A) (l x : A) → ((d : ℕ) → d < length ls → P d (get_or ls d x)) → P (length ls) l → (d : ℕ) → d < length (ls ++ l ∷ []) → P d (get_or (ls ++ l ∷ []) d x)
+each_pushed P [] l x each here zero h = here
+each_pushed P [] l x each here (suc d) h = absurd (omega arith)
+each_pushed P (y ∷ ls) l x each here zero h = each 0 (omega arith)
+each_pushed P (y ∷ ls) l x each here (suc d) h = each_pushed (λ k. P (suc k)) ls l x (λ k b. each (suc k) (omega arith)) here d (omega arith)
+
+pub each_taken : {A : Type 0} (P : ℕ → A → Type 0) (ls : List A) (n : ℕ) (x : A) → ((d : ℕ) → d < length ls → P d (get_or ls d x)) → (d : ℕ) → d < length (take n ls) → P d (get_or (take n ls) d x)
+each_taken P ls n x each d h =
+    let less : d < n × d < length ls = (omega (arith, length-take n ls), omega (arith, length-take n ls)) in
+    subst (P d) (sym (get_or-take n ls d x less.0)) (each d less.1)
 
 pub at_front : (m : ℕ) (hi : List ℕ) (i : ℕ) → i < m → at (take m hi) (i + 1) ≡ get_or hi i 0
 at_front m hi i h =
