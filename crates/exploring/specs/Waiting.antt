@@ -1,10 +1,9 @@
 -- The items that the waiting spaces still have to come, deepest first.
-use Rattle.std.specs.Prelude.{◌≡◌, ℕ, ◌+◌, ◌-◌, ◌<◌, ◌≤◌, false, cond, Option, List, [], ◌∷◌, ◌++◌, length, take, Some, None, nat_lt, slice_index, slice_index_or}
+use Rattle.std.specs.Prelude.{◌≡◌, ℕ, ◌+◌, ◌-◌, ◌<◌, ◌≤◌, Bool, true, false, cond, List, [], ◌∷◌, ◌++◌, length, drop, Some, None, nat_lt, slice_index, slice_index_or}
 use Rattle.std.specs.List.{range_with_len}
 use Rattle.measure.specs.Algebra.{Algebra, Row}
 use Rattle.sets.specs.Spaces.{Space, space}
 use Rattle.sets.specs.Trace.{Trace, children, explore}
-use Rattle.squeezing.specs.declared.frame.Frame.{Frame}
 use Rattle.exploring.specs.declared.level.Level.{Level}
 use Rattle.exploring.specs.declared.frontier.Frontier.{Frontier}
 use Rattle.exploring.specs.declared.work.Work.{Work}
@@ -48,7 +47,7 @@ items_of a row table low high f = to_come (explore_of a row f.root.n table low h
 abbrev pub left_of : {M : Type 0} → Algebra → (M → Row) → List M → Work M → Trace
 left_of a row table w = items_of a row table (row w.band.low) (row w.band.high) w.frontier
 
--- the next space was examined: its item, the set of the space that was given or nothing, was the first to come
-abbrev pub Examined : Option Frame → Trace → Trace → Type 0
-Examined (Some t) before after = before ≡ Some (take t.m t.lo) ∷ after
-Examined None before after = before ≡ None ∷ after
+-- the next space was examined: its item was the first to come
+abbrev pub Examined : Bool → List ℕ → List ℕ → Trace → Trace → Type 0
+Examined true page page' before after = (ps : List ℕ) × (before ≡ Some ps ∷ after) × (page' ≡ ps ++ drop (length ps) page)
+Examined false page page' before after = (before ≡ None ∷ after) × (page' ≡ page)

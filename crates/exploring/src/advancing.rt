@@ -1,4 +1,4 @@
-ghost use Rattle.std.specs.Prelude.{◌≡◌, ◌<◌, ◌≤◌, ◌++◌, length, drop, IfOk, MatchResult};
+ghost use Rattle.std.specs.Prelude.{◌≡◌, ◌<◌, ◌≤◌, length, drop, IfOk, MatchResult};
 ghost use Rattle.roll.specs.declared.refusal.Refusal.TheVariants.{ShortPage};
 ghost use Rattle.sets.specs.Advance.{run};
 ghost use Rattle.exploring.specs.Meaning.{coming, size_of, Ran, Same, Sound};
@@ -8,17 +8,8 @@ use crate::state::{Answer, Search, Told};
 use measure::Measure;
 use roll::refusal::Refusal;
 
-// Writes the places in front of the page.
-fn write(places: &[u16], page: &mut [u16])
-    requires { length places.now ≤ length page.old }
-    ensures { page.new ≡ places.now ++ drop (length places.now) page.old }
-{
-    page[..places.len()].copy_from_slice(places);
-}
-
 impl<'t, M: Measure> Search<'t, M> {
     // Examines spaces until one holds a set, the allowance is spent, or none waits. A page too short for a set is refused.
-    // Kept: `Sound` is a premise and no fact of the type, since `over` takes any table, also one that holds no totals.
     pub fn advance(&mut self, allowance: u32, page: &mut [u16]) -> Result<Answer, Refusal>
         ensures same { Same self.old self.new }
         ensures beyond { drop (size_of self.old) page.new ≡ drop (size_of self.old) page.old }
@@ -36,8 +27,7 @@ impl<'t, M: Measure> Search<'t, M> {
                     steps,
                 });
             }
-            if let Some(set) = examine(self.table, &mut self.work) {
-                write(&set.lo[..set.m], page);
+            if examine(self.table, &mut self.work, page) {
                 return Ok(Answer {
                     told: Told::Set,
                     steps: steps + 1,

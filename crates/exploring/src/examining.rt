@@ -1,27 +1,39 @@
-ghost use Rattle.std.specs.Prelude.{◌≡◌, ◌≤◌, length, IfSome};
+ghost use Rattle.std.specs.Prelude.{◌≡◌, ◌+◌, ◌<◌, ◌≤◌, false, ◌++◌, length, drop};
 ghost use Rattle.squeezing.specs.Table.{Holds, offset};
 ghost use Rattle.exploring.specs.Waiting.{left_of, Ready, Examined};
 
 use crate::opening::first_open;
 use crate::work::Work;
 use measure::Measure;
-use squeezing::frame::Frame;
 use squeezing::spaces::squeezed;
 
-// Examines the next space. What it gives is the space of one set, if the next one holds one alone.
-pub(crate) fn examine<M: Measure>(table: &[M], work: &mut Work<M>) -> Option<Frame>
+// Writes the places in front of the page.
+fn write(places: &[u16], page: &mut [u16])
+    requires { length places.now ≤ length page.old }
+    ensures { page.new ≡ places.now ++ drop (length places.now) page.old }
+{
+    page[0..places.len()].copy_from_slice(places);
+}
+
+// Examines the next space. True: it holds one set, which is written in front of the page.
+pub(crate) fn examine<M: Measure>(table: &[M], work: &mut Work<M>, page: &mut [u16]) -> bool
     requires sized { offset work.old.frontier.root.n work.old.frontier.root.m ≤ length table.now }
     requires ready { Ready work.old.frontier }
+    requires room { work.old.frontier.root.m ≤ length page.old }
     ensures root { work.new.frontier.root ≡ work.old.frontier.root }
     ensures band { work.new.band ≡ work.old.band }
-    ensures size { IfSome result (λ set. set.m ≡ work.old.frontier.root.m) }
-    ensures is { Holds M.algebra M.Measure.row M.span work.old.frontier.root.n work.old.frontier.root.m table.now → Examined result (left_of M.algebra M.Measure.row table.now work.old) (left_of M.algebra M.Measure.row table.now work.new) }
+    ensures still { result ≡ false → page.new ≡ page.old }
+    ensures beyond { drop work.old.frontier.root.m page.new ≡ drop work.old.frontier.root.m page.old }
+    ensures is { Holds M.algebra M.Measure.row M.span work.old.frontier.root.n work.old.frontier.root.m table.now → Examined result page.old page.new (left_of M.algebra M.Measure.row table.now work.old) (left_of M.algebra M.Measure.row table.now work.new) }
 {
     let space = work.frontier.take();
-    let left = squeezed(space, table, &mut work.room, work.band)?;
+    let Some(left) = squeezed(space, table, &mut work.room, work.band) else {
+        return false;
+    };
     let Some(i) = first_open(&left) else {
-        return Some(left);
+        write(&left.lo[0..left.m], page);
+        return true;
     };
     work.frontier.push(left, i);
-    None
+    false
 }

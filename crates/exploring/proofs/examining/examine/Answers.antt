@@ -1,8 +1,7 @@
-use Rattle.std.proofs.Common.{◌≡◌, ◌<◌, length, None, Option, sym, subst, arith, rules}
+use Rattle.std.proofs.Common.{◌≡◌, ◌-◌, ◌<◌, ◌++◌, length, take, drop, refl, arith, rules}
+use native.Mathlib.Nat.{sub-zero}
 use Rattle.squeezing.specs.Table.{Holds}
-use Rattle.squeezing.specs.Frames.{squeeze_of, Suits}
-use Rattle.squeezing.specs.declared.frame.Frame.{Frame}
-use Rattle.exploring.specs.Waiting.{items_of, left_of, Examined}
+use Rattle.squeezing.specs.Frames.{Suits}
 use Rattle.exploring.proofs.Stepping.{suited, left_none, left-set, left_open}
 use Rattle.exploring.proofs.examining.examine.Given.{Over}
 use Rattle.exploring.proofs.examining.examine.Goals as goal
@@ -16,32 +15,35 @@ suits_next g c held =
     let long : 120 < length c.args.work.now.room = omega arith in
     suited m.algebra m.row m.span c.args.table.now (length c.args.work.now.room) c.args.work.now.frontier.root c.take-space.result told.same.1 told.same.0 c.requires.sized long held
 
-pub returns-in_err-left-clause-is : goal.returns-in_err-left-clause-is
-returns-in_err-left-clause-is g c = λ held.
-    let m = g.M.Measure in
-    let band = c.args.work.now.band in
-    let told = c.take-space.ensures in
-    let suits = suits_next g (goal.at.returns-in_err-left-clause-is g c).After-take-space held in
-    let none : squeeze_of m.algebra m.row c.args.table.now (m.row band.low) (m.row band.high) c.take-space.result ≡ None = c.in_err-left.ensures suits in
-    let given : c.from_residual.result ≡ None = search rules in
-    let P : Option Frame → Type 0 = λ o. Examined o (left_of m.algebra m.row c.args.table.now c.args.work.now) (items_of m.algebra m.row c.args.table.now (m.row band.low) (m.row band.high) c.take-space.new.self) in
-    subst P (sym given) (left_none m.algebra m.row c.args.table.now (m.row band.low) (m.row band.high) c.args.work.now.frontier c.take-space.new.self c.take-space.result told.root.0 told.same.1 told.items none)
-
 pub returns-in_default-clause-is : goal.returns-in_default-clause-is
 returns-in_default-clause-is g c = λ held.
     let m = g.M.Measure in
     let band = c.args.work.now.band in
     let told = c.take-space.ensures in
     let suits = suits_next g (goal.at.returns-in_default-clause-is g c).After-take-space held in
-    left-set m.algebra m.row c.args.table.now (m.row band.low) (m.row band.high) c.args.work.now.frontier c.take-space.new.self c.take-space.result told.root.0 told.same.1 told.items c.in_ok-left.left (c.in_ok-left.ensures.1 suits) c.in_default.ensures
+    (left_none m.algebra m.row c.args.table.now (m.row band.low) (m.row band.high) c.args.work.now.frontier c.take-space.new.self c.take-space.result told.root.0 told.same.1 told.items (c.in_default.ensures suits), refl)
+
+pub returns-in_default-first_open-clause-is : goal.returns-in_default-first_open-clause-is
+returns-in_default-first_open-clause-is g c = λ held.
+    let m = g.M.Measure in
+    let band = c.args.work.now.band in
+    let told = c.take-space.ensures in
+    let t = c.in-Some.left in
+    let suits = suits_next g (goal.at.returns-in_default-first_open-clause-is g c).After-take-space held in
+    let z : t.m - 0 ≡ t.m = sub-zero t.m in
+    let wrote : c.write.new.page ≡ take t.m t.lo ++ drop (length (take t.m t.lo)) c.args.page.now = rw z at c.write.ensures in (
+      take t.m t.lo,
+      left-set m.algebra m.row c.args.table.now (m.row band.low) (m.row band.high) c.args.work.now.frontier c.take-space.new.self c.take-space.result told.root.0 told.same.1 told.items t (c.in-Some.ensures.1 suits) c.in_default-first_open.ensures,
+      wrote,
+    )
 
 pub returns-clause-is : goal.returns-clause-is
 returns-clause-is g c = λ held.
     let m = g.M.Measure in
     let band = c.args.work.now.band in
     let told = c.take-space.ensures in
-    let t = c.in_ok-left.left in
+    let t = c.in-Some.left in
     let lows : length t.lo ≡ 120 = search rules in
     let highs : length t.hi ≡ 120 = search rules in
     let suits = suits_next g (goal.at.returns-clause-is g c).After-take-space held in
-    left_open m.algebra m.row c.args.table.now (m.row band.low) (m.row band.high) c.args.work.now.frontier c.take-space.new.self c.take-space.result told.root.0 told.same.1 told.items t c.in-Some.i lows highs (c.in_ok-left.ensures.1 suits) c.in-Some.ensures c.push.new.self c.push.ensures.root c.push.ensures.items
+    (left_open m.algebra m.row c.args.table.now (m.row band.low) (m.row band.high) c.args.work.now.frontier c.take-space.new.self c.take-space.result told.root.0 told.same.1 told.items t c.in-Some-first_open.i lows highs (c.in-Some.ensures.1 suits) c.in-Some-first_open.ensures c.push.new.self c.push.ensures.root c.push.ensures.items, refl)

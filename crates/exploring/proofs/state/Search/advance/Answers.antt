@@ -1,4 +1,4 @@
-use Rattle.std.proofs.Common.{◌≡◌, ◌+◌, ◌-◌, ◌≤◌, ◌++◌, length, take, drop, sym, refl, ap, ◌∙◌, subst, arith, rules}
+use Rattle.std.proofs.Common.{◌≡◌, ◌+◌, ◌-◌, ◌≤◌, ◌++◌, length, drop, sym, refl, ap, ◌∙◌, subst, arith, rules}
 use Rattle.sets.specs.Advance.{run}
 use Rattle.squeezing.specs.Table.{entries, offset}
 use Rattle.exploring.specs.Meaning.{coming, Sound}
@@ -41,15 +41,13 @@ returns-else-waits-clause-is g c = λ held.
     let s = c.steps.self in
     ran_finished _ _ c.args.allowance 0 c.args.allowance _ _ (stopping g (goal.at.returns-else-waits-clause-is g c).After-waits-2 held) (c.waits-2.ensures.none c.if-waits.false (explore_of m.algebra m.row c.waits-2.new.self.root.n s.table.now (m.row s.work.band.low) (m.row s.work.band.high))) c.steps.invariant.page
 
-pub returns-in-Some-clause-is : goal.returns-in-Some-clause-is
-returns-in-Some-clause-is g c = λ held.
+pub returns-then-examine-clause-is : goal.returns-then-examine-clause-is
+returns-then-examine-clause-is g c = λ held.
     let m = g.M.Measure in
     let s = c.steps.self in
     let inv = c.steps.invariant in
-    let t = c.in-Some.set in
-    let ps = take t.m t.lo in
-    let told = c.in-Some.ensures.is (held_of m.algebra m.row m.span c.args.self.now.table.now s.table.now c.args.self.now.work.frontier.root c.waits.new.self.root inv.table (c.waits.ensures.root ∙ inv.root) held) in
-    ran-set _ _ _ _ ps c.args.allowance (c.args.allowance - c.steps.steps) c.steps.steps _ _ (going_on g (goal.at.returns-in-Some-clause-is g c).After-waits held) told (omega (arith, c.steps-test.true)) (c.write.ensures ∙ ap (λ p. ps ++ drop (length ps) p) inv.page) refl
+    let told = c.if-examine.ensures.is (held_of m.algebra m.row m.span c.args.self.now.table.now s.table.now c.args.self.now.work.frontier.root c.waits.new.self.root inv.table (c.waits.ensures.root ∙ inv.root) held) in
+    ran-set _ _ _ _ told.0 c.args.allowance (c.args.allowance - c.steps.steps) c.steps.steps _ _ (going_on g (goal.at.returns-then-examine-clause-is g c).After-waits held) told.1 (omega (arith, c.steps-test.true)) (told.2 ∙ ap (λ p. told.0 ++ drop (length told.0) p) inv.page) refl
 
 pub steps-preserved : goal.steps-preserved
 steps-preserved g c =
@@ -59,12 +57,23 @@ steps-preserved g c =
     record {
       root = c.examine.ensures.root ∙ c.waits.ensures.root ∙ inv.root;
       table = inv.table;
-      page = inv.page;
+      page = c.examine.ensures.still c.if-examine.false ∙ inv.page;
       is = λ held.
-          let told = c.in_default.ensures.is (held_of m.algebra m.row m.span c.args.self.now.table.now s.table.now c.args.self.now.work.frontier.root c.waits.new.self.root inv.table (c.waits.ensures.root ∙ inv.root) held) in
+          let told = c.if-examine.ensures.is (held_of m.algebra m.row m.span c.args.self.now.table.now s.table.now c.args.self.now.work.frontier.root c.waits.new.self.root inv.table (c.waits.ensures.root ∙ inv.root) held) in
           going_on g (goal.at.steps-preserved g c).After-waits held
-          ∙ run_none _ _ (c.args.allowance - c.steps.steps) (c.args.allowance - (c.steps.steps + 1)) c.steps.steps told (omega (arith, c.steps-test.true));
+          ∙ run_none _ _ (c.args.allowance - c.steps.steps) (c.args.allowance - (c.steps.steps + 1)) c.steps.steps told.0 (omega (arith, c.steps-test.true));
     }
 
 pub examine-requires : goal.examine-requires
-examine-requires g c = (search rules, (subst (λ q. offset q.n q.m ≤ length c.steps.self.table.now) (sym c.waits.ensures.root) c.steps.self.long, c.waits.ensures.some c.if-not-waits.false))
+examine-requires g c =
+    let root = c.waits.ensures.root in
+    let many : c.waits.new.self.root.m ≡ c.args.self.now.work.frontier.root.m = ap (λ q. q.m) (root ∙ c.steps.invariant.root) in (
+      search rules,
+      (
+        subst (λ q. offset q.n q.m ≤ length c.steps.self.table.now) (sym root) c.steps.self.long,
+        (
+          c.waits.ensures.some c.if-not-waits.false,
+          omega (arith, many, c.if-page-self.false, c.steps.auto.page),
+        ),
+      ),
+    )
