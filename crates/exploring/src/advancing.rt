@@ -10,6 +10,7 @@ use roll::refusal::Refusal;
 
 impl<'t, M: Measure> Search<'t, M> {
     // Examines spaces until one holds a set, the allowance is spent, or none waits. A page too short for a set is refused.
+    // Kept: `Sound` is a premise and no fact of the type, since `over` takes any table, also one that holds no totals.
     pub fn advance(&mut self, allowance: u32, page: &mut [u16]) -> Result<Answer, Refusal>
         ensures same { Same self.old self.new }
         ensures beyond { drop (size_of self.old) page.new ≡ drop (size_of self.old) page.old }

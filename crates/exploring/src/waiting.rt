@@ -31,6 +31,7 @@ impl Frontier {
     }
 
     // The next space.
+    // Kept: the level is written out, since a struct with ghost fields takes no `..level`.
     pub(crate) fn take(&mut self) -> Frame
         requires { Ready self.old }
         ensures root { (self.new.root ≡ self.old.root) × (self.new.fresh ≡ false) }

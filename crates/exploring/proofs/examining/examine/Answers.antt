@@ -1,5 +1,4 @@
-use Rattle.std.proofs.Common.{◌≡◌, ◌-◌, ◌<◌, ◌++◌, length, take, drop, refl, arith, rules}
-use native.Mathlib.Nat.{sub-zero}
+use Rattle.std.proofs.Common.{◌≡◌, ◌<◌, length, take, refl, arith, rules}
 use Rattle.squeezing.specs.Table.{Holds}
 use Rattle.squeezing.specs.Frames.{Suits}
 use Rattle.exploring.proofs.Stepping.{suited, left_none, left-set, left_open}
@@ -29,12 +28,10 @@ returns-in_default-first_open-clause-is g c = λ held.
     let band = c.args.work.now.band in
     let told = c.take-space.ensures in
     let t = c.in-Some.left in
-    let suits = suits_next g (goal.at.returns-in_default-first_open-clause-is g c).After-take-space held in
-    let z : t.m - 0 ≡ t.m = sub-zero t.m in
-    let wrote : c.write.new.page ≡ take t.m t.lo ++ drop (length (take t.m t.lo)) c.args.page.now = rw z at c.write.ensures in (
+    let suits = suits_next g (goal.at.returns-in_default-first_open-clause-is g c).After-take-space held in (
       take t.m t.lo,
       left-set m.algebra m.row c.args.table.now (m.row band.low) (m.row band.high) c.args.work.now.frontier c.take-space.new.self c.take-space.result told.root.0 told.same.1 told.items t (c.in-Some.ensures.1 suits) c.in_default-first_open.ensures,
-      wrote,
+      c.write.ensures,
     )
 
 pub returns-clause-is : goal.returns-clause-is
