@@ -16,7 +16,7 @@ fn write(places: &[u16], page: &mut [u16])
 }
 
 // Examines the next space. True: it holds one set, which is written in front of the page.
-// Kept: a bool, since handing out the set's space as an Option copies it, and makes a step about 8 % slower.
+// Kept: a bool, since handing out the set's space as an Option copies it, and a step then takes about a tenth more time.
 pub(crate) fn examine<M: Measure>(table: &[M], work: &mut Work<M>, page: &mut [u16]) -> bool
     requires sized { offset work.old.frontier.root.n work.old.frontier.root.m ≤ length table.now }
     requires ready { Ready work.old.frontier }
