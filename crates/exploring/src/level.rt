@@ -1,7 +1,6 @@
 ghost use Rattle.std.specs.Prelude.{◌+◌, ◌<◌, ◌≤◌, slice_index};
 ghost use Rattle.exploring.specs.Settled.{SettledBelow};
 
-use crate::whole::whole;
 use squeezing::frame::Frame;
 
 // A squeezed space, the index of its first open position, and the next place to try there.
@@ -20,7 +19,12 @@ pub struct Level {
 impl Default for Level {
     fn default() -> Level {
         Level {
-            frame: whole(1, 1),
+            frame: Frame {
+                n: 1,
+                m: 1,
+                lo: [1; 120],
+                hi: [1; 120],
+            },
             at: 0,
             next: 1,
         }
