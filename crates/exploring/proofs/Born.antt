@@ -84,11 +84,3 @@ module _ (n m : ℕ) (lo hi new : List ℕ) (i v : ℕ) (long : length lo ≡ 12
       let next : i + 1 - 1 ≡ i = omega arith in
       let highs_are : take m (set hi i v) ≡ set (take m hi) (i + 1 - 1) v = take-set-lt m hi i v open_at ∙ ap (λ q. set (take m hi) q v) (sym next) in
       ap (λ l. space l (take m (set hi i v))) lows_are ∙ ap (λ h. space (map f (range_with_len 1 (length (take m lo)))) h) highs_are
-
--- the child is settled up to its position i
-pub born_settled : (hi new : List ℕ) (i v : ℕ) → i < length hi → ((k : ℕ) → k < i → get_or new k 0 ≡ get_or hi k 0) → get_or new i 0 ≡ v → (j : ℕ) → j < i + 1 → get_or new j 0 ≡ get_or (set hi i v) j 0
-born_settled hi new i v within before here j h =
-    ⊎_elim
-    (λ e. ap (λ q. get_or new q 0) e ∙ here ∙ sym (ap (λ q. get_or (set hi i v) q 0) e ∙ get_or-set_same hi i v 0 within))
-    (λ ne. before j (omega arith) ∙ sym (get_or-set_other hi i j v 0 ne))
-    (cases_eq j i)

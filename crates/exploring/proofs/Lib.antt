@@ -4,3 +4,4 @@ pub mod Explored
 pub mod Stepping
 pub mod Running
 pub mod Rooting
+pub mod Opened

@@ -1,29 +1,22 @@
 -- A search that begins has the trace of its entries to come.
-use Rattle.std.proofs.Common.{◌≡◌, ℕ, zero, suc, ◌+◌, ◌-◌, ◌<◌, ◌≤◌, true, cond, ◌&&◌, ltb, leb, List, [], ◌++◌, length, get_or, take, set, sym, refl, ap, ◌∙◌, subst, ⊎_elim, append-nil, arith}
+use Rattle.std.proofs.Common.{◌≡◌, ℕ, zero, suc, ◌+◌, ◌-◌, ◌<◌, ◌≤◌, true, cond, ◌&&◌, ltb, leb, List, [], ◌++◌, length, get_or, take, sym, refl, ap, ◌∙◌, subst, ⊎_elim, append-nil, arith}
 use Rattle.std.specs.List.{range_with_len}
 use Rattle.std.proofs.lemmas.List.FromFn.{get_or-range_with_len, length-range_with_len}
-use Rattle.std.proofs.lemmas.List.{ext_get_or, length-take-le, get_or-take, get_or-set_same, get_or-set_other, get_or_past}
-use Rattle.std.proofs.lemmas.Bool.{cases_eq, cases_lt, cases_Bool, cond-true, cond-false, and_parts, and_from, lt-ltb, le-leb, ltb-true, leb-true}
+use Rattle.std.proofs.lemmas.List.{ext_get_or, length-take-le, get_or-take, get_or_past}
+use Rattle.std.proofs.lemmas.Bool.{cases_lt, cases_Bool, cond-true, cond-false, and_parts, and_from, lt-ltb, le-leb, ltb-true, leb-true}
 use Rattle.measure.specs.Algebra.{Algebra, Row}
 use Rattle.sets.specs.Spaces.{Space, space}
 use Rattle.sets.specs.Trace.{Trace}
 use Rattle.squeezing.specs.declared.frame.Frame.{Frame}
+use Rattle.exploring.specs.declared.level.Level.{Level}
 use Rattle.exploring.specs.declared.state.Search.{Search}
 use Rattle.squeezing.specs.Table.{offset, entries, Holds}
 use Rattle.squeezing.specs.Frames.{space_of}
-use Rattle.exploring.specs.Waiting.{first_of, explore_of}
+use Rattle.exploring.specs.Waiting.{stacked, level_items, first_of, explore_of}
 use Rattle.squeezing.specs.Table.{fits}
 use Rattle.exploring.specs.Meaning.{table_of, count_of, size_of, Sound, planned, Same}
 use Rattle.squeezing.proofs.Columns.{offset_past, offset-zero}
 use Rattle.squeezing.proofs.Sums.{entries-length}
-
--- one place more is written down
-pub written : (f : ℕ → ℕ) (xs : List ℕ) (j v : ℕ) → j < length xs → v ≡ f j → ((k : ℕ) → k < j → get_or xs k 0 ≡ f k) → (k : ℕ) → k < j + 1 → get_or (set xs j v) k 0 ≡ f k
-written f xs j v h e before k l =
-    ⊎_elim
-    (λ same. ap (λ q. get_or (set xs j v) q 0) same ∙ get_or-set_same xs j v 0 h ∙ e ∙ ap f (sym same))
-    (λ other. get_or-set_other xs j k v 0 other ∙ before k (omega arith))
-    (cases_eq k j)
 
 -- places above 0 stand within their list
 long_enough : (a m : ℕ) (xs : List ℕ) → 0 < a → ((k : ℕ) → k < m → get_or xs k 0 ≡ a + k) → m ≤ length xs
@@ -40,9 +33,10 @@ take_counting a m xs some each =
     ext_get_or 0 (take m xs) (range_with_len a m) (many ∙ sym (length-range_with_len a m)) (λ k l. let b : k < m = omega (arith, many) in get_or-take m xs k 0 b ∙ each k b ∙ sym (get_or-range_with_len a m k 0 b))
 
 -- what is to come where only the first space may wait
-pub begins : (e : ℕ → Space → Trace) (r : Frame) (n m : ℕ) → r.m ≡ m → ((j : ℕ) → j < m → get_or r.lo j 0 ≡ 1 + j) → ((j : ℕ) → j < m → get_or r.hi j 0 ≡ n - m + 1 + j) → cond (ltb 0 m) (e (r.m + 1) (space_of r)) [] ++ [] ≡ first_of e n m
-begins e r n m same lowest highest =
-    append-nil (cond (ltb 0 m) (e (r.m + 1) (space_of r)) [])
+pub begins : (e : ℕ → Space → Trace) (r : Frame) (ls : List Level) (n m : ℕ) → ls ≡ [] → r.m ≡ m → ((j : ℕ) → j < m → get_or r.lo j 0 ≡ 1 + j) → ((j : ℕ) → j < m → get_or r.hi j 0 ≡ n - m + 1 + j) → cond (ltb 0 m) (e (r.m + 1) (space_of r)) [] ++ stacked (level_items e) r.m ls ≡ first_of e n m
+begins e r ls n m none same lowest highest =
+    ap (λ l. cond (ltb 0 m) (e (r.m + 1) (space_of r)) [] ++ stacked (level_items e) r.m l) none
+    ∙ append-nil (cond (ltb 0 m) (e (r.m + 1) (space_of r)) [])
     ∙ ap (λ k. cond (ltb 0 m) (e (k + 1) (space (take k r.lo) (take k r.hi))) []) same
     ∙ ap (λ l. cond (ltb 0 m) (e (m + 1) (space l (take m r.hi))) []) (take_counting 1 m r.lo (omega arith) lowest)
     ∙ ap (λ h. cond (ltb 0 m) (e (m + 1) (space (range_with_len 1 m) h)) []) (take_counting (n - m + 1) m r.hi (omega arith) highest)

@@ -1,13 +1,15 @@
 -- A run over the items to come, one step at a time.
-use Rattle.std.proofs.Common.{◌≡◌, ℕ, zero, suc, ◌+◌, ◌-◌, ◌<◌, ◌≤◌, Bool, true, false, cond, List, [], ◌∷◌, ◌++◌, length, get_or, take, Some, None, Option, sym, refl, ap, ◌∙◌, subst, arith}
+use Rattle.std.proofs.Common.{◌≡◌, ℕ, zero, suc, ◌+◌, ◌-◌, ◌<◌, ◌≤◌, Bool, true, false, cond, List, [], ◌∷◌, ◌++◌, length, get_or, take, drop, Some, None, Option, sym, refl, ap, ◌∙◌, subst, arith}
 use Rattle.exploring.specs.declared.level.Level.{Level}
 use Rattle.exploring.specs.declared.frontier.Frontier.{Frontier}
 use Rattle.measure.specs.Algebra.{Algebra, Row}
 use Rattle.sets.specs.Spaces.{Space, at, child, open_at, squeeze, widths}
 use Rattle.sets.specs.Trace.{Item, Trace, children, explore}
-use Rattle.sets.specs.Advance.{set, spent, run}
+use Rattle.sets.specs.Advance.{set, spent, finished, run}
+use Rattle.exploring.specs.declared.state.Told.TheVariants.{Set, Spent, Finished}
+use Rattle.exploring.specs.Meaning.{Ran}
 use Rattle.squeezing.specs.Frames.{space_of}
-use Rattle.exploring.specs.Waiting.{stacked, level_items, to_come, Ready}
+use Rattle.exploring.specs.Waiting.{stacked, level_items, depth_of, to_come, Ready}
 use Rattle.exploring.proofs.Explored.{opened, examined}
 use Rattle.exploring.proofs.Stacking.{top_is, children_next, at_front}
 
@@ -58,23 +60,39 @@ module _ (a : Algebra) (xs : List Row) (low high : Row) where
   ready_go : (f : Frontier) (fresh : Bool) → f.fresh ≡ fresh → Ready f → More (to_come (explore a xs low high) f)
   ready_go f true e ready =
       let E = explore a xs low high in
-      let whole = more_append (E (f.root.m + 1) (space_of f.root)) (stacked (level_items E) f.root.m (take f.depth f.levels)) (explore_more f.root.m (f.root.m + 1) (space_of f.root) (omega arith)) in
-      subst (λ b. More (cond b (E (f.root.m + 1) (space_of f.root)) [] ++ stacked (level_items E) f.root.m (take f.depth f.levels))) (sym e) whole
+      let whole = more_append (E (f.root.m + 1) (space_of f.root)) (stacked (level_items E) f.root.m f.levels.items) (explore_more f.root.m (f.root.m + 1) (space_of f.root) (omega arith)) in
+      subst (λ b. More (cond b (E (f.root.m + 1) (space_of f.root)) [] ++ stacked (level_items E) f.root.m f.levels.items)) (sym e) whole
   ready_go f false e ready =
       let E = explore a xs low high in
       let some = ready e in
-      let x = first_level f.levels (omega (arith, f.full)) in
-      let l = get_or f.levels (f.depth - 1) x in
+      let x = first_level f.levels.items some.0 in
+      let l = get_or f.levels.items (depth_of f - 1) x in
       let t = space_of l.frame in
-      let k = f.root.m - (f.depth - 1) in
+      let k = f.root.m - (depth_of f - 1) in
       let within : l.next ≤ at t.hi (l.at + 1) = omega (arith, some.1 x, at_front l.frame.m l.frame.hi l.at l.within) in
-      let top : stacked (level_items E) f.root.m (take f.depth f.levels) ≡ children (E k) t (l.at + 1) l.next ++ stacked (level_items E) f.root.m (take (f.depth - 1) f.levels) =
-      top_is (level_items E) f.root.m f.depth f.levels x some.0 (omega (arith, f.full, f.deep, f.root.small)) in
+      let top : stacked (level_items E) f.root.m f.levels.items ≡ children (E k) t (l.at + 1) l.next ++ stacked (level_items E) f.root.m (take (depth_of f - 1) f.levels.items) =
+      top_is (level_items E) f.root.m f.levels.items some.0 x in
       let head = children_next E k t (l.at + 1) l.next within in
-      let one = more_append (E k (child t (l.at + 1) l.next)) (children (E k) t (l.at + 1) (l.next + 1)) (explore_more (f.root.m - f.depth) k (child t (l.at + 1) l.next) (omega (arith, some.0, f.deep))) in
-      let whole = more_append (children (E k) t (l.at + 1) l.next) (stacked (level_items E) f.root.m (take (f.depth - 1) f.levels)) (subst (λ q. More q) (sym head) one) in
+      let one = more_append (E k (child t (l.at + 1) l.next)) (children (E k) t (l.at + 1) (l.next + 1)) (explore_more (f.root.m - depth_of f) k (child t (l.at + 1) l.next) (omega (arith, some.0, f.deep))) in
+      let whole = more_append (children (E k) t (l.at + 1) l.next) (stacked (level_items E) f.root.m (take (depth_of f - 1) f.levels.items)) (subst (λ q. More q) (sym head) one) in
       let all = subst (λ q. More q) (sym top) whole in
-      subst (λ b. More (cond b (E (f.root.m + 1) (space_of f.root)) [] ++ stacked (level_items E) f.root.m (take f.depth f.levels))) (sym e) all
+      subst (λ b. More (cond b (E (f.root.m + 1) (space_of f.root)) [] ++ stacked (level_items E) f.root.m f.levels.items)) (sym e) all
 
   pub ready_more : (f : Frontier) → Ready f → More (to_come (explore a xs low high) f)
   ready_more f ready = ready_go f f.fresh refl ready
+
+-- what an advance tells, by how it ended: with no item left
+pub ran_finished : (all items : Trace) (allowance left steps : ℕ) (page page' : List ℕ) → run all allowance 0 ≡ run items left steps → items ≡ [] → page' ≡ page → Ran (run all allowance 0) (record { told = Finished; steps = steps }) page page' items
+ran_finished all items allowance left steps page page' e none same =
+    let whole : run all allowance 0 ≡ record { end = finished; steps = steps; rest = [] } = e ∙ ap (λ l. run l left steps) none in
+    subst (λ w. Ran w (record { told = Finished; steps = steps }) page page' items) (sym whole) (record { told = refl; steps = refl; page_is = same; rest = none })
+
+-- with an item left, and nothing of the allowance
+pub ran_spent : (all items : Trace) (allowance left steps : ℕ) (page page' : List ℕ) → run all allowance 0 ≡ run items left steps → More items → left ≡ 0 → page' ≡ page → Ran (run all allowance 0) (record { told = Spent; steps = steps }) page page' items
+ran_spent all items allowance left steps page page' e more none same =
+    subst (λ w. Ran w (record { told = Spent; steps = steps }) page page' items) (sym (e ∙ run_spent items left steps more none)) (record { told = refl; steps = refl; page_is = same; rest = refl })
+
+-- with a set
+pub ran-set : (all items rest left' : Trace) (ps : List ℕ) (allowance left steps : ℕ) (page page' : List ℕ) → run all allowance 0 ≡ run items left steps → items ≡ Some ps ∷ rest → 0 < left → page' ≡ ps ++ drop (length ps) page → left' ≡ rest → Ran (run all allowance 0) (record { told = Set; steps = steps + 1 }) page page' left'
+ran-set all items rest left' ps allowance left steps page page' e first more wrote same =
+    subst (λ w. Ran w (record { told = Set; steps = steps + 1 }) page page' left') (sym (e ∙ run-set items rest ps left steps first more)) (record { told = refl; steps = refl; page_is = wrote; rest = same })

@@ -1,7 +1,7 @@
 -- The items of spaces on the way down: one more, the top one, and its next child.
-use Rattle.std.proofs.Common.{◌≡◌, ℕ, suc, ◌+◌, ◌-◌, ◌<◌, ◌≤◌, Bool, false, cond, List, [], ◌∷◌, ◌++◌, length, get_or, take, set, sym, refl, ap, ◌∙◌, append_assoc, append-nil, arith}
-use Rattle.std.specs.List.{range_with_len}
-use Rattle.std.proofs.lemmas.List.{take_more, take_more_set, length-take-le, get_or-take}
+use Rattle.std.proofs.Common.{◌≡◌, ℕ, zero, suc, ◌+◌, ◌-◌, ◌<◌, ◌≤◌, Bool, false, cond, List, [], ◌∷◌, ◌++◌, length, get_or, take, drop, set, sym, refl, ap, ◌∙◌, subst, append_assoc, append-nil, arith}
+use Rattle.std.specs.List.{range_with_len, refill}
+use Rattle.std.proofs.lemmas.List.{take_all, take_at, take_more, take_more_set, length-set, length-take, length-take-le, get_or-take}
 use Rattle.sets.specs.Spaces.{Space, at, child}
 use Rattle.sets.specs.Trace.{Trace, concat_map, children}
 use Rattle.exploring.specs.Waiting.{stacked}
@@ -16,25 +16,33 @@ stacked_push f d (x ∷ ls) l =
     ∙ append_assoc (f (d - 1 - length ls) l) (stacked f (d - 1) ls) (f d x)
     ∙ ap (λ k. f k l ++ (stacked f (d - 1) ls ++ f d x)) e
 
-module _ {A : Type 0} (f : ℕ → A → Trace) (m depth : ℕ) (levels : List A) where
-  pub grown : (l : A) → depth < length levels → stacked f m (take (depth + 1) (set levels depth l)) ≡ f (m - depth) l ++ stacked f m (take depth levels)
-  grown l h =
-      ap (stacked f m) (take_more_set levels depth l h)
-      ∙ stacked_push f m (take depth levels) l
-      ∙ ap (λ k. f (m - k) l ++ stacked f m (take depth levels)) (length-take-le depth levels (omega arith))
+-- a level written through the slice of all of them
+pub rewritten : {A : Type 0} (levels ws : List A) (i j : ℕ) (l : A) → ws ≡ levels → i ≡ j → refill (length levels) levels (set ws i l) ≡ set levels j l
+rewritten levels ws i j l same here =
+    ap (λ q. refill (length levels) levels (set q i l)) same
+    ∙ ap (λ q. refill (length levels) levels (set levels q l)) here
+    ∙ take_at (set levels j l) (drop (length (set levels j l)) levels) (length levels) (length-set levels j l)
 
-  pub top_is : (x : A) → 0 < depth → depth ≤ length levels → stacked f m (take depth levels) ≡ f (m - (depth - 1)) (get_or levels (depth - 1) x) ++ stacked f m (take (depth - 1) levels)
-  top_is x h l =
-      let next : depth ≡ depth - 1 + 1 = omega arith in
-      ap (λ k. stacked f m (take k levels)) next
-      ∙ ap (stacked f m) (take_more levels (depth - 1) x (omega arith))
-      ∙ stacked_push f m (take (depth - 1) levels) (get_or levels (depth - 1) x)
-      ∙ ap (λ k. f (m - k) (get_or levels (depth - 1) x) ++ stacked f m (take (depth - 1) levels)) (length-take-le (depth - 1) levels (omega arith))
+pub rewritten_length : {A : Type 0} (levels ws : List A) (i : ℕ) (l : A) → ws ≡ levels → length (refill (length levels) levels (set ws i l)) ≡ length levels
+rewritten_length levels ws i l same = ap length (rewritten levels ws i i l same refl) ∙ length-set levels i l
 
-pub top_set : {A : Type 0} (f : ℕ → A → Trace) (m depth : ℕ) (levels : List A) (l : A) → 0 < depth → depth ≤ length levels → stacked f m (take depth (set levels (depth - 1) l)) ≡ f (m - (depth - 1)) l ++ stacked f m (take (depth - 1) levels)
-top_set f m depth levels l h b =
-    let next : depth ≡ depth - 1 + 1 = omega arith in
-    ap (λ k. stacked f m (take k (set levels (depth - 1) l))) next ∙ grown f m (depth - 1) levels l (omega arith)
+-- the levels with another one on top
+module _ {A : Type 0} (f : ℕ → A → Trace) (m : ℕ) (levels : List A) (some : 0 < length levels) where
+  abbrev below : List A
+  below = take (length levels - 1) levels
+
+  on_top : (l : A) → stacked f m (below ++ l ∷ []) ≡ f (m - (length levels - 1)) l ++ stacked f m below
+  on_top l = stacked_push f m below l ∙ ap (λ k. f (m - k) l ++ stacked f m below) (length-take-le (length levels - 1) levels (omega arith))
+
+  pub top_is : (x : A) → stacked f m levels ≡ f (m - (length levels - 1)) (get_or levels (length levels - 1) x) ++ stacked f m below
+  top_is x =
+      let whole : length levels ≤ length levels - 1 + 1 = omega arith in
+      ap (stacked f m) (sym (take_all (length levels - 1 + 1) levels whole) ∙ take_more levels (length levels - 1) x (omega arith)) ∙ on_top (get_or levels (length levels - 1) x)
+
+  pub top_set : (l : A) → stacked f m (set levels (length levels - 1) l) ≡ f (m - (length levels - 1)) l ++ stacked f m below
+  top_set l =
+      let whole : length (set levels (length levels - 1) l) ≤ length levels - 1 + 1 = omega (arith, length-set levels (length levels - 1) l) in
+      ap (stacked f m) (sym (take_all (length levels - 1 + 1) (set levels (length levels - 1) l) whole) ∙ take_more_set levels (length levels - 1) l (omega arith)) ∙ on_top l
 
 module _ (e : ℕ → Space → Trace) (d : ℕ) (t : Space) (i : ℕ) where
   from_many : (v k : ℕ) → concat_map (λ w. e d (child t i w)) (range_with_len v (suc k)) ≡ e d (child t i v) ++ concat_map (λ w. e d (child t i w)) (range_with_len (v + 1) k)
@@ -51,28 +59,47 @@ module _ (e : ℕ → Space → Trace) (d : ℕ) (t : Space) (i : ℕ) where
       ap (λ k. concat_map (λ w. e d (child t i w)) (range_with_len v k)) none
 
 -- the same, with the root before them
-module _ {A : Type 0} (first : Trace) (f : ℕ → A → Trace) (m depth : ℕ) (levels : List A) where
-  pub pushed_items : (l : A) (fresh : Bool) → fresh ≡ false → depth < length levels → cond fresh first [] ++ stacked f m (take (depth + 1) (set levels depth l)) ≡ f (m - depth) l ++ (cond fresh first [] ++ stacked f m (take depth levels))
-  pushed_items l fresh old h =
+module _ {A : Type 0} (first : Trace) (f : ℕ → A → Trace) (m : ℕ) (levels : List A) where
+  pub pushed_items : (l : A) (fresh : Bool) → fresh ≡ false → cond fresh first [] ++ stacked f m (levels ++ l ∷ []) ≡ f (m - length levels) l ++ (cond fresh first [] ++ stacked f m levels)
+  pushed_items l fresh old =
       let none : cond fresh first [] ≡ [] = ap (λ b. cond b first []) old in
-      ap (λ x. x ++ stacked f m (take (depth + 1) (set levels depth l))) none
-      ∙ grown f m depth levels l h
-      ∙ ap (λ x. f (m - depth) l ++ (x ++ stacked f m (take depth levels))) (sym none)
+      ap (λ x. x ++ stacked f m (levels ++ l ∷ [])) none
+      ∙ stacked_push f m levels l
+      ∙ ap (λ x. f (m - length levels) l ++ (x ++ stacked f m levels)) (sym none)
 
-  pub taken_items : (x l : A) (fresh : Bool) (next : Trace) → fresh ≡ false → 0 < depth → depth ≤ length levels → f (m - (depth - 1)) (get_or levels (depth - 1) x) ≡ next ++ f (m - (depth - 1)) l → cond fresh first [] ++ stacked f m (take depth levels) ≡ next ++ (cond fresh first [] ++ stacked f m (take depth (set levels (depth - 1) l)))
-  taken_items x l fresh next old h b e =
+  taken_top : (x l : A) (fresh : Bool) (next : Trace) → fresh ≡ false → 0 < length levels → f (m - (length levels - 1)) (get_or levels (length levels - 1) x) ≡ next ++ f (m - (length levels - 1)) l → cond fresh first [] ++ stacked f m levels ≡ next ++ (cond fresh first [] ++ stacked f m (set levels (length levels - 1) l))
+  taken_top x l fresh next old h e =
       let none : cond fresh first [] ≡ [] = ap (λ b. cond b first []) old in
-      let rest = stacked f m (take (depth - 1) levels) in
-      ap (λ y. y ++ stacked f m (take depth levels)) none
-      ∙ top_is f m depth levels x h b
+      let rest = stacked f m (take (length levels - 1) levels) in
+      ap (λ y. y ++ stacked f m levels) none
+      ∙ top_is f m levels h x
       ∙ ap (λ y. y ++ rest) e
-      ∙ append_assoc next (f (m - (depth - 1)) l) rest
-      ∙ ap (λ y. next ++ y) (sym (top_set f m depth levels l h b))
-      ∙ ap (λ y. next ++ (y ++ stacked f m (take depth (set levels (depth - 1) l)))) (sym none)
+      ∙ append_assoc next (f (m - (length levels - 1)) l) rest
+      ∙ ap (λ y. next ++ y) (sym (top_set f m levels h l))
+      ∙ ap (λ y. next ++ (y ++ stacked f m (set levels (length levels - 1) l))) (sym none)
 
-  pub popped_items : (x : A) (fresh : Bool) → 0 < depth → depth ≤ length levels → f (m - (depth - 1)) (get_or levels (depth - 1) x) ≡ [] → cond fresh first [] ++ stacked f m (take (depth - 1) levels) ≡ cond fresh first [] ++ stacked f m (take depth levels)
-  popped_items x fresh h b e =
-      ap (λ y. cond fresh first [] ++ y) (sym (top_is f m depth levels x h b ∙ ap (λ y. y ++ stacked f m (take (depth - 1) levels)) e))
+  pub taken_items : (ws : List A) (i : ℕ) → ws ≡ levels → i ≡ length levels - 1 → (x l : A) (fresh : Bool) (next : ℕ → Trace) → fresh ≡ false → 0 < length levels → f (m - (length levels - 1)) (get_or levels (length levels - 1) x) ≡ next (length levels) ++ f (m - (length levels - 1)) l → cond fresh first [] ++ stacked f m levels ≡ next (length (refill (length levels) levels (set ws i l))) ++ (cond fresh first [] ++ stacked f m (refill (length levels) levels (set ws i l)))
+  taken_items ws i same here x l fresh next old h e =
+      let is = rewritten levels ws i (length levels - 1) l same here in
+      taken_top x l fresh (next (length levels)) old h e
+      ∙ ap (λ ls. next (length levels) ++ (cond fresh first [] ++ stacked f m ls)) (sym is)
+      ∙ ap (λ k. next k ++ (cond fresh first [] ++ stacked f m (refill (length levels) levels (set ws i l)))) (sym (rewritten_length levels ws i l same))
+
+  pub popped_items : (x : A) (fresh : Bool) → 0 < length levels → f (m - (length levels - 1)) (get_or levels (length levels - 1) x) ≡ [] → cond fresh first [] ++ stacked f m (take (length levels - 1) levels) ≡ cond fresh first [] ++ stacked f m levels
+  popped_items x fresh h e =
+      ap (λ y. cond fresh first [] ++ y) (sym (top_is f m levels h x ∙ ap (λ y. y ++ stacked f m (take (length levels - 1) levels)) e))
+
+-- what holds of each level holds with one more, or without the last ones
+pub each_pushed : {A : Type 0} (P : ℕ → A → Type 0) (ls : List A) (l x : A) → ((d : ℕ) → d < length ls → P d (get_or ls d x)) → P (length ls) l → (d : ℕ) → d < length (ls ++ l ∷ []) → P d (get_or (ls ++ l ∷ []) d x)
+each_pushed P [] l x each here zero h = here
+each_pushed P [] l x each here (suc d) h = absurd (omega arith)
+each_pushed P (y ∷ ls) l x each here zero h = each 0 (omega arith)
+each_pushed P (y ∷ ls) l x each here (suc d) h = each_pushed (λ k. P (suc k)) ls l x (λ k b. each (suc k) (omega arith)) here d (omega arith)
+
+pub each_taken : {A : Type 0} (P : ℕ → A → Type 0) (ls : List A) (n : ℕ) (x : A) → ((d : ℕ) → d < length ls → P d (get_or ls d x)) → (d : ℕ) → d < length (take n ls) → P d (get_or (take n ls) d x)
+each_taken P ls n x each d h =
+    let less : d < n × d < length ls = (omega (arith, length-take n ls), omega (arith, length-take n ls)) in
+    subst (P d) (sym (get_or-take n ls d x less.0)) (each d less.1)
 
 pub at_front : (m : ℕ) (hi : List ℕ) (i : ℕ) → i < m → at (take m hi) (i + 1) ≡ get_or hi i 0
 at_front m hi i h =

@@ -8,7 +8,8 @@ use Rattle.squeezing.specs.declared.frame.Frame.{Frame}
 use Rattle.exploring.specs.declared.frontier.Frontier.{Frontier}
 use Rattle.squeezing.specs.Table.{entries, offset, Holds}
 use Rattle.squeezing.specs.Frames.{space_of, squeeze_of, Suits}
-use Rattle.exploring.specs.Waiting.{explore_of, items_of, to_come}
+use Rattle.exploring.specs.Settled.{SettledBelow, OpensAt}
+use Rattle.exploring.specs.Waiting.{depth_of, explore_of, items_of, to_come}
 use Rattle.exploring.proofs.Explored.{open_none, open_some, explore_none, explore-set, explore_open}
 use Rattle.exploring.proofs.Stacking.{at_front}
 
@@ -55,15 +56,41 @@ module _ {M : Type 0} (a : Algebra) (row : M → Row) (table : List M) (low high
 
 module _ {M : Type 0} (a : Algebra) (row : M → Row) (table : List M) (low high : Row) where
   -- the same items, with the root by another name
-  pub root_same : (f f' : Frontier) → f'.root ≡ f.root → to_come (explore_of a row f.root.n table low high) f' ≡ items_of a row table low high f'
+  root_same : (f f' : Frontier) → f'.root ≡ f.root → to_come (explore_of a row f.root.n table low high) f' ≡ items_of a row table low high f'
   root_same f f' e = ap (λ q. to_come (explore_of a row q.n table low high) f') (sym e)
 
-  -- the first item of the next space is the first to come
-  pub first_item : (f : Frontier) (depth : ℕ) (s : Space) (x : Item) (more rest : Trace) → depth ≤ f.root.m → items_of a row table low high f ≡ explore_of a row f.root.n table low high (f.root.m + 1 - depth) s ++ rest → explore_of a row f.root.n table low high (suc (f.root.m - depth)) s ≡ x ∷ more → items_of a row table low high f ≡ x ∷ (more ++ rest)
-  first_item f depth s x more rest deep e first =
-      let fuel : f.root.m + 1 - depth ≡ suc (f.root.m - depth) = omega arith in
-      e ∙ ap (λ k. explore_of a row f.root.n table low high k s ++ rest) fuel ∙ ap (λ l. l ++ rest) first
+  -- asking whether a space waits changes nothing of what is to come
+  pub waited : (f f' : Frontier) → f'.root ≡ f.root → ((e : ℕ → Space → Trace) → to_come e f' ≡ to_come e f) → items_of a row table low high f ≡ items_of a row table low high f'
+  waited f f' root items = sym (items (explore_of a row f.root.n table low high)) ∙ root_same f f' root
 
--- the same items, with the ends by other names
-pub ends_same : {M : Type 0} (a : Algebra) (row : M → Row) (table : List M) (f : Frontier) (low low' high high' : M) → low' ≡ low → high' ≡ high → items_of a row table (row low) (row high) f ≡ items_of a row table (row low') (row high') f
-ends_same a row table f low low' high high' el eh = ap (λ l. items_of a row table (row l) (row high) f) (sym el) ∙ ap (λ h. items_of a row table (row low') (row h) f) (sym eh)
+-- what is to come once the next space, r, is taken and examined
+module _ {M : Type 0} (a : Algebra) (row : M → Row) (table : List M) (low high : Row) (f f1 : Frontier) (r : Frame) (root : f1.root ≡ f.root) (same : r.n ≡ f.root.n) (taken : (e : ℕ → Space → Trace) → to_come e f ≡ e (f.root.m + 1 - depth_of f1) (space_of r) ++ to_come e f1) where
+  abbrev items_from : ℕ → Space → Trace
+  items_from = explore_of a row f.root.n table low high
+
+  abbrev left_depth : ℕ
+  left_depth = f.root.m - depth_of f1
+
+  first_item : (x : Item) (more : Trace) → items_from (suc left_depth) (space_of r) ≡ x ∷ more → items_of a row table low high f ≡ x ∷ (more ++ to_come items_from f1)
+  first_item x more first =
+      let fuel : f.root.m + 1 - depth_of f1 ≡ suc left_depth = omega (arith, f1.deep, ap (λ (q : Frame). q.m) root) in
+      taken items_from ∙ ap (λ k. items_from k (space_of r) ++ to_come items_from f1) fuel ∙ ap (λ l. l ++ to_come items_from f1) first
+
+  pub left_none : squeeze_of a row table low high r ≡ None → items_of a row table low high f ≡ None ∷ items_of a row table low high f1
+  left_none e = first_item None [] (step_none a row table low high r f.root.n same left_depth e) ∙ ap (λ l. None ∷ l) (root_same a row table low high f f1 root)
+
+  pub left-set : (t : Frame) → squeeze_of a row table low high r ≡ Some (space_of t) → SettledBelow t t.m → items_of a row table low high f ≡ Some (take t.m t.lo) ∷ items_of a row table low high f1
+  left-set t e settled = first_item (Some (take t.m t.lo)) [] (step_set a row table low high r f.root.n same left_depth t e settled) ∙ ap (λ l. Some (take t.m t.lo) ∷ l) (root_same a row table low high f f1 root)
+
+  pub left_open : (t : Frame) (i : ℕ) → length t.lo ≡ 120 → length t.hi ≡ 120 → squeeze_of a row table low high r ≡ Some (space_of t) → OpensAt t i → (f2 : Frontier) → f2.root ≡ f1.root → ((e : ℕ → Space → Trace) → to_come e f2 ≡ children (e (f1.root.m - depth_of f1)) (space_of t) (i + 1) (get_or t.lo i 0) ++ to_come e f1) → items_of a row table low high f ≡ None ∷ items_of a row table low high f2
+  left_open t i lows highs e opens f2 again pushed =
+      let below = children (items_from left_depth) (space_of t) (i + 1) (get_or t.lo i 0) in
+      let after : to_come items_from f2 ≡ below ++ to_come items_from f1 = pushed items_from ∙ ap (λ (q : Frame). children (items_from (q.m - depth_of f1)) (space_of t) (i + 1) (get_or t.lo i 0) ++ to_come items_from f1) root in
+      first_item None below (step_open a row table low high r f.root.n same left_depth t i lows highs e opens.0 opens.1 opens.2)
+      ∙ ap (λ l. None ∷ l) (sym after)
+      ∙ ap (λ l. None ∷ l) (root_same a row table low high f f2 (again ∙ root))
+
+-- a table that holds its totals holds them for a root by another name
+pub held_of : {M : Type 0} (a : Algebra) (row : M → Row) (span : M → ℕ) (table table' : List M) (r r' : Frame) → table' ≡ table → r' ≡ r → Holds a row span r.n r.m table → Holds a row span r'.n r'.m table'
+held_of a row span table table' r r' t e held =
+    subst (λ (q : Frame). Holds a row span q.n q.m table') (sym e) (subst (λ q. Holds a row span r.n r.m q) (sym t) held)

@@ -8,7 +8,7 @@ use Rattle.exploring.specs.declared.state.Told.{Told}
 use Rattle.exploring.specs.declared.state.Told.TheVariants.{Set, Spent, Finished}
 use Rattle.exploring.specs.declared.state.Answer.{Answer}
 use Rattle.squeezing.specs.Table.{entries, Holds, fits}
-use Rattle.exploring.specs.Waiting.{items_of}
+use Rattle.exploring.specs.Waiting.{left_of}
 
 -- the table that a Search reads
 abbrev pub table_of : {M : Type 0} → Search M → List M
@@ -24,7 +24,7 @@ size_of s = s.work.frontier.root.m
 
 -- what a Search has still to come
 abbrev pub coming : {M : Type 0} → Algebra → (M → Row) → Search M → Trace
-coming a row s = items_of a row (table_of s) (row s.work.low) (row s.work.high) s.work.frontier
+coming a row s = left_of a row (table_of s) s.work
 
 -- the table of a Search holds the totals of neighbours of its entries
 abbrev pub Sound : {M : Type 0} → Algebra → (M → Row) → (M → ℕ) → Search M → Type 0

@@ -10,6 +10,7 @@ use roll::refusal::Refusal;
 
 impl<'t, M: Measure> Search<'t, M> {
     // Examines spaces until one holds a set, the allowance is spent, or none waits. A page too short for a set is refused.
+    // Kept: `Sound` is a premise and no fact of the type, since `over` takes any table, also one that holds no totals.
     pub fn advance(&mut self, allowance: u32, page: &mut [u16]) -> Result<Answer, Refusal>
         ensures same { Same self.old self.new }
         ensures beyond { drop (size_of self.old) page.new ≡ drop (size_of self.old) page.old }
@@ -20,25 +21,28 @@ impl<'t, M: Measure> Search<'t, M> {
         if page.len() < self.work.frontier.root.m {
             return Err(Refusal::ShortPage);
         }
-        let mut steps = 0;
-        'steps: while self.work.frontier.waits() {
-            if steps == allowance {
+        'steps: for steps in 0..allowance {
+            if !self.work.frontier.waits() {
                 return Ok(Answer {
-                    told: Told::Spent,
+                    told: Told::Finished,
                     steps,
                 });
             }
-            steps += 1;
             if examine(self.table, &mut self.work, page) {
                 return Ok(Answer {
                     told: Told::Set,
-                    steps,
+                    steps: steps + 1,
                 });
             }
         }
+        let told = if self.work.frontier.waits() {
+            Told::Spent
+        } else {
+            Told::Finished
+        };
         Ok(Answer {
-            told: Told::Finished,
-            steps,
+            told,
+            steps: allowance,
         })
     }
 }

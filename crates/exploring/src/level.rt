@@ -1,4 +1,5 @@
-ghost use Rattle.std.specs.Prelude.{◌≡◌, ℕ, ◌+◌, ◌<◌, ◌≤◌, slice_index};
+ghost use Rattle.std.specs.Prelude.{◌+◌, ◌<◌, ◌≤◌, slice_index};
+ghost use Rattle.exploring.specs.Settled.{SettledBelow};
 
 use squeezing::frame::Frame;
 
@@ -11,5 +12,21 @@ pub struct Level {
     ghost within: { at < frame.m },
     ghost least: { slice_index frame.lo at ≤ next },
     ghost most: { next ≤ slice_index frame.hi at + 1 },
-    ghost settled: { (j : ℕ) → j < at → slice_index frame.lo j ≡ slice_index frame.hi j },
+    ghost settled: { SettledBelow frame at },
+}
+
+// What stands where no level is.
+impl Default for Level {
+    fn default() -> Level {
+        Level {
+            frame: Frame {
+                n: 1,
+                m: 1,
+                lo: [1; 120],
+                hi: [1; 120],
+            },
+            at: 0,
+            next: 1,
+        }
+    }
 }

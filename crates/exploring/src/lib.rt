@@ -13,4 +13,5 @@ mod opening;
 pub mod starting;
 pub mod state;
 mod waiting;
+mod whole;
 mod work;

@@ -1,15 +1,15 @@
-ghost use Rattle.std.specs.Prelude.{◌≡◌, ℕ, ◌<◌, MatchOption, slice_index};
+ghost use Rattle.std.specs.Prelude.{MatchOption};
+ghost use Rattle.exploring.specs.Settled.{SettledBelow, OpensAt};
 
 use squeezing::frame::Frame;
 
 // The index of the first open position: its lower place is below its upper one. None: all are settled.
 pub(crate) fn first_open(frame: &Frame) -> Option<usize>
-    ensures { MatchOption result ((j : ℕ) → j < frame.now.m → slice_index frame.now.lo j ≡ slice_index frame.now.hi j) (λ i. (i < frame.now.m) × (slice_index frame.now.lo i < slice_index frame.now.hi i) × ((j : ℕ) → j < i → slice_index frame.now.lo j ≡ slice_index frame.now.hi j)) }
+    ensures { MatchOption result (SettledBelow frame.now frame.now.m) (OpensAt frame.now) }
 {
-    for i in 0..frame.m {
-        if frame.lo[i] < frame.hi[i] {
-            return Some(i);
-        }
-    }
-    None
+    let m = frame.m;
+    frame.lo[..m]
+        .iter()
+        .zip(&frame.hi[..m])
+        .position(|(lo, hi)| lo < hi)
 }

@@ -1,4 +1,4 @@
-ghost use Rattle.std.specs.Prelude.{◌≡◌, ℕ, ◌+◌, ◌-◌, ◌<◌, ◌≤◌, if◌then◌else◌, slice_index};
+ghost use Rattle.std.specs.Prelude.{◌≡◌, ℕ, ◌≤◌, if◌then◌else◌};
 ghost use Rattle.sets.specs.Spaces.{Space};
 ghost use Rattle.sets.specs.Trace.{Trace};
 ghost use Rattle.squeezing.specs.Table.{fits as fits_in};
@@ -6,28 +6,12 @@ ghost use Rattle.exploring.specs.Meaning.{planned, coming, table_of, count_of, s
 ghost use Rattle.exploring.specs.Waiting.{to_come, first_of};
 
 use crate::frontier::Frontier;
-use crate::level::Level;
 use crate::state::Search;
+use crate::whole::whole;
 use crate::work::Work;
+use arrayvec::ArrayVec;
 use measure::{Band, Measure};
-use squeezing::frame::Frame;
 use squeezing::table::fits;
-
-// Every set of `m` of `n` places.
-fn whole(n: usize, m: usize) -> Frame
-    requires { (m ≤ n) × (n ≤ 120) }
-    ensures same { (result.n ≡ n) × (result.m ≡ m) }
-    ensures lowest { (j : ℕ) → j < m → slice_index result.lo j ≡ 1 + j }
-    ensures highest { (j : ℕ) → j < m → slice_index result.hi j ≡ n - m + 1 + j }
-{
-    let mut lo = [0; 120];
-    let mut hi = [0; 120];
-    for j in 0..m {
-        lo[j] = (1 + j) as u16;
-        hi[j] = (n - m + 1 + j) as u16;
-    }
-    Frame { n, m, lo, hi }
-}
 
 // The Search for sets of `m` of `n` places begins: its first space waits, unless the size is 0.
 fn plan(n: usize, m: usize) -> Frontier
@@ -35,16 +19,10 @@ fn plan(n: usize, m: usize) -> Frontier
     ensures same { (result.root.n ≡ n) × (result.root.m ≡ m) }
     ensures items { (e : ℕ → Space → Trace) → to_come e result ≡ first_of e n m }
 {
-    let unused = Level {
-        frame: whole(1, 1),
-        at: 0,
-        next: 1,
-    };
     Frontier {
         root: whole(n, m),
         fresh: m > 0,
-        depth: 0,
-        levels: [unused; 120],
+        levels: ArrayVec::new(),
     }
 }
 
@@ -61,20 +39,17 @@ fn plan_over(n: usize, m: usize, cells: usize) -> Frontier
     }
 }
 
-// The Search for sets of `m` of `n` entries whose totals lie between `low` and `high`, over a table of the totals of
-// neighbours whose first column holds the entries. Where the sizes do not fit the Search is finished, and of size 0.
+// The Search for sets of `m` of `n` entries whose totals lie in the band, over a table of the totals of neighbours whose
+// first column holds the entries. Where the sizes do not fit the Search is finished, and of size 0.
 pub fn over<'t, M: Measure>(table: &'t [M], n: usize, m: usize, band: Band<M>) -> Search<'t, M>
     ensures { Begun M.algebra M.Measure.row M.span n m table.now band.low band.high result }
 {
-    let frontier = plan_over(n, m, table.len());
-    let room = [M::nothing(); 121];
     Search {
         table,
         work: Work {
-            frontier,
-            low: band.low,
-            high: band.high,
-            room,
+            frontier: plan_over(n, m, table.len()),
+            band,
+            room: [M::nothing(); 121],
         },
     }
 }
@@ -87,13 +62,12 @@ impl<'t, M: Measure> Search<'t, M> {
         self.work.frontier.root.m
     }
 
-    // The same Search begins again from its first space, between other ends.
+    // The same Search begins again from its first space, over another band.
     pub fn restart(&mut self, band: Band<M>)
         ensures same { Same self.old self.new }
         ensures comes { coming M.algebra M.Measure.row self.new ≡ planned M.algebra M.Measure.row (count_of self.old) (size_of self.old) (table_of self.old) (M.Measure.row band.low) (M.Measure.row band.high) }
     {
         self.work.frontier.restart();
-        self.work.low = band.low;
-        self.work.high = band.high;
+        self.work.band = band;
     }
 }

@@ -12,7 +12,7 @@ pub struct Search<'t, M> {
 }
 
 // How an advance ended: with a set, with its allowance spent, or with no space left.
-#[derive(Clone, Copy)]
+#[derive(Clone, Copy, PartialEq, Eq, Debug)]
 pub enum Told {
     Set,
     Spent,
@@ -20,7 +20,7 @@ pub enum Told {
 }
 
 // What an advance tells: how it ended, and how many spaces it examined.
-#[derive(Clone, Copy)]
+#[derive(Clone, Copy, PartialEq, Eq, Debug)]
 pub struct Answer {
     pub told: Told,
     pub steps: u32,

@@ -2,7 +2,8 @@ ghost use Rattle.std.specs.Prelude.{◌≡◌, ℕ, ◌+◌, ◌-◌, ◌<◌, �
 ghost use Rattle.sets.specs.Spaces.{Space};
 ghost use Rattle.sets.specs.Trace.{Trace, children};
 ghost use Rattle.squeezing.specs.Frames.{space_of};
-ghost use Rattle.exploring.specs.Waiting.{to_come, first_of, Ready};
+ghost use Rattle.exploring.specs.Settled.{SettledBelow};
+ghost use Rattle.exploring.specs.Waiting.{depth_of, to_come, first_of, Ready};
 
 use crate::children::child;
 use crate::frontier::Frontier;
@@ -20,29 +21,29 @@ impl Frontier {
         if self.fresh {
             return true;
         }
-        'popping: while self.depth > 0 {
-            let level = &self.levels[self.depth - 1];
+        'popping: while let Some(level) = self.levels.last() {
             if level.next <= level.frame.hi[level.at] {
                 return true;
             }
-            self.depth -= 1;
+            self.levels.pop();
         }
         false
     }
 
     // The next space.
+    // Kept: the level is written out, since a struct with ghost fields takes no `..level`.
     pub(crate) fn take(&mut self) -> Frame
         requires { Ready self.old }
         ensures root { (self.new.root ≡ self.old.root) × (self.new.fresh ≡ false) }
         ensures same { (result.m ≡ self.old.root.m) × (result.n ≡ self.old.root.n) }
-        ensures settled { (j : ℕ) → j < self.new.depth → slice_index result.lo j ≡ slice_index result.hi j }
-        ensures items { (e : ℕ → Space → Trace) → to_come e self.old ≡ e (self.old.root.m + 1 - self.new.depth) (space_of result) ++ to_come e self.new }
+        ensures settled { SettledBelow result (depth_of self.new) }
+        ensures items { (e : ℕ → Space → Trace) → to_come e self.old ≡ e (self.old.root.m + 1 - depth_of self.new) (space_of result) ++ to_come e self.new }
     {
         if self.fresh {
             self.fresh = false;
             return self.root;
         }
-        let top = self.depth - 1;
+        let top = self.levels.len() - 1;
         let level = self.levels[top];
         self.levels[top] = Level {
             frame: level.frame,
@@ -56,17 +57,16 @@ impl Frontier {
     pub(crate) fn push(&mut self, frame: Frame, at: usize)
         requires old { self.old.fresh ≡ false }
         requires same { (frame.m ≡ self.old.root.m) × (frame.n ≡ self.old.root.n) }
-        requires open { (self.old.depth ≤ at) × (at < frame.m) }
-        requires settled { (j : ℕ) → j < at → slice_index frame.lo j ≡ slice_index frame.hi j }
+        requires open { (depth_of self.old ≤ at) × (at < frame.m) }
+        requires settled { SettledBelow frame at }
         ensures root { self.new.root ≡ self.old.root }
-        ensures items { (e : ℕ → Space → Trace) → to_come e self.new ≡ children (e (self.old.root.m - self.old.depth)) (space_of frame) (at + 1) (slice_index frame.lo at) ++ to_come e self.old }
+        ensures items { (e : ℕ → Space → Trace) → to_come e self.new ≡ children (e (self.old.root.m - depth_of self.old)) (space_of frame) (at + 1) (slice_index frame.lo at) ++ to_come e self.old }
     {
-        self.levels[self.depth] = Level {
+        self.levels.push(Level {
             frame,
             at,
             next: frame.lo[at],
-        };
-        self.depth += 1;
+        });
     }
 
     // The first space waits again, and nothing else.
@@ -74,7 +74,7 @@ impl Frontier {
         ensures root { self.new.root ≡ self.old.root }
         ensures items { (e : ℕ → Space → Trace) → to_come e self.new ≡ first_of e self.old.root.n self.old.root.m }
     {
-        self.depth = 0;
+        self.levels.clear();
         self.fresh = self.root.m > 0;
     }
 }

@@ -1,11 +1,10 @@
 use crate::frontier::Frontier;
+use measure::Band;
 
-// What changes while a Search goes on: the spaces that wait, the ends of the sought band, and room for the totals of
-// one pass.
+// What changes while a Search goes on: the spaces that wait, the sought band, and room for the totals of one pass.
 #[derive(Drop)]
 pub struct Work<M> {
     pub frontier: Frontier,
-    pub low: M,
-    pub high: M,
+    pub band: Band<M>,
     pub room: [M; 121],
 }

@@ -1,123 +1,46 @@
-use Rattle.std.proofs.Common.{◌≡◌, ◌+◌, ◌-◌, ◌<◌, ◌≤◌, [], ◌∷◌, ◌++◌, length, get_or, take, drop, Some, None, sym, refl, ap, ◌∙◌, ⊎_elim, arith, rules}
-use native.Mathlib.Nat.{sub-zero}
-use Rattle.std.proofs.lemmas.List.{length-take-le, drop_at}
-use Rattle.std.proofs.lemmas.Bool.{true≢false, cases_lt}
-use Rattle.sets.specs.Trace.{children}
-use Rattle.squeezing.specs.Frames.{space_of}
-use Rattle.exploring.specs.Waiting.{explore_of, to_come}
-use Rattle.exploring.proofs.Stepping.{suited, step_none, step_set, step_open, root_same, first_item}
+use Rattle.std.proofs.Common.{◌≡◌, ◌<◌, length, take, refl, arith, rules}
+use Rattle.squeezing.specs.Table.{Holds}
+use Rattle.squeezing.specs.Frames.{Suits}
+use Rattle.exploring.proofs.Stepping.{suited, left_none, left-set, left_open}
+use Rattle.exploring.proofs.examining.examine.Given.{Over}
 use Rattle.exploring.proofs.examining.examine.Goals as goal
+use Rattle.exploring.proofs.examining.examine.Goals.{After-take-space}
 
-pub returns-in_default : goal.returns-in_default
-returns-in_default g c =
+-- the table and the room suit the space that was taken
+suits_next : (g : Over) (c : After-take-space g) → Holds g.M.Measure.algebra g.M.Measure.row g.M.Measure.span c.args.work.now.frontier.root.n c.args.work.now.frontier.root.m c.args.table.now → Suits g.M.Measure.algebra g.M.Measure.row g.M.Measure.span c.args.table.now (length c.args.work.now.room) c.take-space.result
+suits_next g c held =
     let m = g.M.Measure in
-    let table = c.args.table.now in
-    let f = c.args.work.now.frontier in
-    let f1 = c.take-space.new.self in
-    let r = c.take-space.result in
     let told = c.take-space.ensures in
-    let low = m.row c.args.work.now.low in
-    let high = m.row c.args.work.now.high in
-    let E = explore_of m.algebra m.row f.root.n table low high in
-    let deep : f1.depth ≤ f.root.m = omega (arith, f1.deep, ap (λ q. q.m) told.root.0) in
-    record {
-      root = told.root.0;
-      ends = (refl, refl);
-      still = λ _. refl;
-      beyond = refl;
-      is = λ held.
-          let long : 120 < length c.args.work.now.room = omega arith in
-          let suits = suited m.algebra m.row m.span table (length c.args.work.now.room) f.root r told.same.1 told.same.0 c.requires.sized long held in
-          let head = step_none m.algebra m.row table low high r f.root.n told.same.1 (f.root.m - f1.depth) (c.in_default.ensures suits) in (
-            first_item m.algebra m.row table low high f f1.depth (space_of r) None [] (to_come E f1) deep (told.items E) head
-                ∙ ap (λ l. None ∷ l) (root_same m.algebra m.row table low high f f1 told.root.0),
-            refl,
-          );
-    }
+    let long : 120 < length c.args.work.now.room = omega arith in
+    suited m.algebra m.row m.span c.args.table.now (length c.args.work.now.room) c.args.work.now.frontier.root c.take-space.result told.same.1 told.same.0 c.requires.sized long held
 
-pub returns-in_default-first_open : goal.returns-in_default-first_open
-returns-in_default-first_open g c =
+pub returns-in_default-clause-is : goal.returns-in_default-clause-is
+returns-in_default-clause-is g c = λ held.
     let m = g.M.Measure in
-    let table = c.args.table.now in
-    let f = c.args.work.now.frontier in
-    let f1 = c.take-space.new.self in
-    let r = c.take-space.result in
+    let band = c.args.work.now.band in
+    let told = c.take-space.ensures in
+    let suits = suits_next g (goal.at.returns-in_default-clause-is g c).After-take-space held in
+    (left_none m.algebra m.row c.args.table.now (m.row band.low) (m.row band.high) c.args.work.now.frontier c.take-space.new.self c.take-space.result told.root.0 told.same.1 told.items (c.in_default.ensures suits), refl)
+
+pub returns-in_default-first_open-clause-is : goal.returns-in_default-first_open-clause-is
+returns-in_default-first_open-clause-is g c = λ held.
+    let m = g.M.Measure in
+    let band = c.args.work.now.band in
+    let told = c.take-space.ensures in
     let t = c.in-Some.left in
-    let told = c.take-space.ensures in
-    let low = m.row c.args.work.now.low in
-    let high = m.row c.args.work.now.high in
-    let E = explore_of m.algebra m.row f.root.n table low high in
-    let deep : f1.depth ≤ f.root.m = omega (arith, f1.deep, ap (λ q. q.m) told.root.0) in
-    let lows : length t.lo ≡ 120 = omega arith in
-    let ps = take t.m t.lo in
-    let z : t.m - 0 ≡ t.m = sub-zero t.m in
-    let wrote : c.write.new.page ≡ ps ++ drop (length ps) c.args.page.now = rw z at c.write.ensures in
-    let many : length ps ≡ f.root.m = length-take-le t.m t.lo (omega (arith, t.small)) ∙ c.in-Some.ensures.0.m ∙ told.same.0 in
-    record {
-      root = told.root.0;
-      ends = (refl, refl);
-      still = λ e. absurd (true≢false e);
-      beyond = ap (drop f.root.m) wrote ∙ ap (λ k. drop k (ps ++ drop (length ps) c.args.page.now)) (sym many) ∙ drop_at ps (drop (length ps) c.args.page.now) (length ps) refl ∙ ap (λ k. drop k c.args.page.now) many;
-      is = λ held.
-          let long : 120 < length c.args.work.now.room = omega arith in
-          let suits = suited m.algebra m.row m.span table (length c.args.work.now.room) f.root r told.same.1 told.same.0 c.requires.sized long held in
-          let head = step_set m.algebra m.row table low high r f.root.n told.same.1 (f.root.m - f1.depth) t (c.in-Some.ensures.1 suits) c.in_default-first_open.ensures in (
-            ps,
-            first_item m.algebra m.row table low high f f1.depth (space_of r) (Some ps) [] (to_come E f1) deep (told.items E) head
-                ∙ ap (λ l. Some ps ∷ l) (root_same m.algebra m.row table low high f f1 told.root.0),
-            wrote,
-          );
-    }
+    let suits = suits_next g (goal.at.returns-in_default-first_open-clause-is g c).After-take-space held in (
+      take t.m t.lo,
+      left-set m.algebra m.row c.args.table.now (m.row band.low) (m.row band.high) c.args.work.now.frontier c.take-space.new.self c.take-space.result told.root.0 told.same.1 told.items t (c.in-Some.ensures.1 suits) c.in_default-first_open.ensures,
+      c.write.ensures,
+    )
 
-pub returns : goal.returns
-returns g c =
+pub returns-clause-is : goal.returns-clause-is
+returns-clause-is g c = λ held.
     let m = g.M.Measure in
-    let table = c.args.table.now in
-    let f = c.args.work.now.frontier in
-    let f1 = c.take-space.new.self in
-    let f2 = c.push.new.self in
-    let r = c.take-space.result in
-    let t = c.in-Some.left in
-    let i = c.in-Some-first_open.i in
+    let band = c.args.work.now.band in
     let told = c.take-space.ensures in
-    let opens = c.in-Some-first_open.ensures in
-    let low = m.row c.args.work.now.low in
-    let high = m.row c.args.work.now.high in
-    let E = explore_of m.algebra m.row f.root.n table low high in
-    let deep : f1.depth ≤ f.root.m = omega (arith, f1.deep, ap (λ q. q.m) told.root.0) in
+    let t = c.in-Some.left in
     let lows : length t.lo ≡ 120 = search rules in
     let highs : length t.hi ≡ 120 = search rules in
-    let root : f2.root ≡ f.root = c.push.ensures.root ∙ told.root.0 in
-    record {
-      root = root;
-      ends = (refl, refl);
-      still = λ _. refl;
-      beyond = refl;
-      is = λ held.
-          let long : 120 < length c.args.work.now.room = omega arith in
-          let suits = suited m.algebra m.row m.span table (length c.args.work.now.room) f.root r told.same.1 told.same.0 c.requires.sized long held in
-          let d = f.root.m - f1.depth in
-          let below = children (E d) (space_of t) (i + 1) (get_or t.lo i 0) in
-          let head = step_open m.algebra m.row table low high r f.root.n told.same.1 d t i lows highs (c.in-Some.ensures.1 suits) opens.0 opens.1 opens.2 in
-          let pushed : to_come E f2 ≡ below ++ to_come E f1 = c.push.ensures.items E ∙ ap (λ q. children (E (q.m - f1.depth)) (space_of t) (i + 1) (get_or t.lo i 0) ++ to_come E f1) told.root.0 in (
-            first_item m.algebra m.row table low high f f1.depth (space_of r) None below (to_come E f1) deep (told.items E) head
-                ∙ ap (λ l. None ∷ l) (sym pushed)
-                ∙ ap (λ l. None ∷ l) (root_same m.algebra m.row table low high f f2 root),
-            refl,
-          );
-    }
-
-pub push-requires : goal.push-requires
-push-requires g c =
-    let f1 = c.take-space.new.self in
-    let t = c.in-Some.left in
-    let i = c.in-Some-first_open.i in
-    let told = c.take-space.ensures in
-    let left = c.in-Some.ensures.0 in
-    let opens = c.in-Some-first_open.ensures in
-    record {
-      old = told.root.1;
-      same = (left.m ∙ told.same.0 ∙ ap (λ q. q.m) (sym told.root.0), left.n ∙ told.same.1 ∙ ap (λ q. q.n) (sym told.root.0));
-      «open» = (⊎_elim (λ h. absurd (omega (arith, opens.1, left.settled i (omega (arith, opens.0, left.m)) (told.settled i h)))) (λ h. h) (cases_lt i f1.depth), opens.0);
-      settled = opens.2;
-    }
+    let suits = suits_next g (goal.at.returns-clause-is g c).After-take-space held in
+    (left_open m.algebra m.row c.args.table.now (m.row band.low) (m.row band.high) c.args.work.now.frontier c.take-space.new.self c.take-space.result told.root.0 told.same.1 told.items t c.in-Some-first_open.i lows highs (c.in-Some.ensures.1 suits) c.in-Some-first_open.ensures c.push.new.self c.push.ensures.root c.push.ensures.items, refl)

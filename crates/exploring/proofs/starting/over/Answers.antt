@@ -5,14 +5,14 @@ use Rattle.exploring.proofs.starting.over.Goals as goal
 
 pub invariant_of-result : goal.invariant_of-result
 invariant_of-result g c =
-    let is = c.plan_over-frontier.ensures in
+    let is = c.plan_over.ensures in
     record { long = fits_long c.args.n c.args.m (length c.args.table.now) _ _ is.count is.size }
 
 pub returns : goal.returns
 returns g c =
     let m = g.M.Measure in
-    let f = c.plan_over-frontier.result.root in
-    let is = c.plan_over-frontier.ensures in
+    let f = c.plan_over.result.root in
+    let is = c.plan_over.ensures in
     let low = m.row c.args.band.low in
     let high = m.row c.args.band.high in
     let table = c.args.table.now in

@@ -1,10 +1,5 @@
 use Rattle.exploring.proofs.Rooting.{begins}
 use Rattle.exploring.proofs.starting.plan.Goals as goal
 
-pub returns : goal.returns
-returns c =
-    let is = c.whole-2.ensures in
-    record {
-      same = is.same;
-      items = λ e. begins e c.whole-2.result c.args.n c.args.m is.same.1 is.lowest is.highest;
-    }
+pub returns-clause-items : goal.returns-clause-items
+returns-clause-items c = let is = c.whole.ensures in λ e. begins e c.whole.result _ c.args.n c.args.m c.new.ensures is.same.1 is.lowest is.highest

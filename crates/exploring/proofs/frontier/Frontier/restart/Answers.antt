@@ -2,7 +2,5 @@ use Rattle.std.proofs.Common.{refl}
 use Rattle.exploring.proofs.Rooting.{begins}
 use Rattle.exploring.proofs.frontier.Frontier.restart.Goals as goal
 
-pub returns : goal.returns
-returns c =
-    let f = c.args.self.now in
-    record { root = refl; items = λ e. begins e f.root f.root.n f.root.m refl f.lowest f.highest }
+pub returns-clause-items : goal.returns-clause-items
+returns-clause-items c = let f = c.args.self.now in λ e. begins e f.root _ f.root.n f.root.m c.clear.ensures refl f.lowest f.highest

@@ -1,145 +1,79 @@
-use Rattle.std.proofs.Common.{◌≡◌, ℕ, ◌+◌, ◌-◌, ◌≤◌, [], ◌++◌, length, drop, sym, refl, ap, ◌∙◌, subst, arith, rules}
-use Rattle.sets.specs.Advance.{run, set, spent, finished}
-use Rattle.exploring.specs.declared.state.Told.TheVariants.{Set, Spent, Finished}
-use Rattle.exploring.specs.Meaning.{coming, Ran, Sound}
-use Rattle.squeezing.specs.Table.{Holds, entries, offset}
+use Rattle.std.proofs.Common.{◌≡◌, ◌+◌, ◌-◌, ◌≤◌, ◌++◌, length, drop, sym, refl, ap, ◌∙◌, subst, arith, rules}
+use Rattle.sets.specs.Advance.{run}
+use Rattle.squeezing.specs.Table.{entries, offset}
+use Rattle.exploring.specs.Meaning.{coming, Sound}
 use Rattle.exploring.specs.Waiting.{items_of, explore_of}
-use Rattle.exploring.proofs.Running.{run_none, run-set, run_spent, ready_more}
-use Rattle.exploring.proofs.Stepping.{root_same, ends_same}
+use Rattle.exploring.proofs.Running.{run_none, ran_finished, ran_spent, ran-set, ready_more}
+use Rattle.exploring.proofs.Stepping.{waited, held_of}
 use Rattle.exploring.proofs.state.Search.advance.Given.{Over}
 use Rattle.exploring.proofs.state.Search.advance.Goals as goal
-use Rattle.exploring.proofs.state.Search.advance.Goals.{After-waits}
+use Rattle.exploring.proofs.state.Search.advance.Goals.{After-waits, After-waits-2}
 
--- asking whether a space waits changes nothing of what is to come
-same_items : (g : Over) (c : After-waits g) → coming g.M.Measure.algebra g.M.Measure.row c.steps.self ≡ items_of g.M.Measure.algebra g.M.Measure.row c.steps.self.table.now (g.M.Measure.row c.steps.self.work.low) (g.M.Measure.row c.steps.self.work.high) c.waits.new.self
-same_items g c =
+-- running on from the spaces that wait ends as running from the start does
+going_on : (g : Over) (c : After-waits g) → Sound g.M.Measure.algebra g.M.Measure.row g.M.Measure.span c.args.self.now → run (coming g.M.Measure.algebra g.M.Measure.row c.args.self.now) c.args.allowance 0 ≡ run (items_of g.M.Measure.algebra g.M.Measure.row c.steps.self.table.now (g.M.Measure.row c.steps.self.work.band.low) (g.M.Measure.row c.steps.self.work.band.high) c.waits.new.self) (c.args.allowance - c.steps.steps) c.steps.steps
+going_on g c held =
     let m = g.M.Measure in
     let s = c.steps.self in
-    let f = s.work.frontier in
-    let low = m.row s.work.low in
-    let high = m.row s.work.high in
-    sym (c.waits.ensures.items (explore_of m.algebra m.row f.root.n s.table.now low high)) ∙ root_same m.algebra m.row s.table.now low high f c.waits.new.self c.waits.ensures.root
+    c.steps.invariant.is held ∙ ap (λ l. run l (c.args.allowance - c.steps.steps) c.steps.steps) (waited m.algebra m.row s.table.now (m.row s.work.band.low) (m.row s.work.band.high) s.work.frontier c.waits.new.self c.waits.ensures.root c.waits.ensures.items)
 
--- the table still holds its totals
-still_sound : (g : Over) (c : After-waits g) → Sound g.M.Measure.algebra g.M.Measure.row g.M.Measure.span c.args.self.now → Holds g.M.Measure.algebra g.M.Measure.row g.M.Measure.span c.waits.new.self.root.n c.waits.new.self.root.m c.steps.self.table.now
-still_sound g c held =
-    let m = g.M.Measure in
-    let root = c.args.self.now.work.frontier.root in
-    subst (λ q. Holds m.algebra m.row m.span q.n q.m c.steps.self.table.now) (sym (c.waits.ensures.root ∙ c.steps.invariant.1)) (subst (λ t. Holds m.algebra m.row m.span root.n root.m t) (sym c.steps.invariant.2) held)
-
-pub returns-then-steps-allowance : goal.returns-then-steps-allowance
-returns-then-steps-allowance g c =
+-- and where the allowance is spent
+stopping : (g : Over) (c : After-waits-2 g) → Sound g.M.Measure.algebra g.M.Measure.row g.M.Measure.span c.args.self.now → run (coming g.M.Measure.algebra g.M.Measure.row c.args.self.now) c.args.allowance 0 ≡ run (items_of g.M.Measure.algebra g.M.Measure.row c.steps.self.table.now (g.M.Measure.row c.steps.self.work.band.low) (g.M.Measure.row c.steps.self.work.band.high) c.waits-2.new.self) 0 c.args.allowance
+stopping g c held =
     let m = g.M.Measure in
     let s = c.steps.self in
-    let f2 = c.waits.new.self in
+    let all : c.steps.steps ≡ c.args.allowance = omega (arith, c.steps.auto.steps-end, c.steps-test.false) in
+    let none : c.args.allowance - c.args.allowance ≡ 0 = omega arith in
+    c.steps.invariant.is held
+    ∙ ap (λ l. run l (c.args.allowance - c.steps.steps) c.steps.steps) (waited m.algebra m.row s.table.now (m.row s.work.band.low) (m.row s.work.band.high) s.work.frontier c.waits-2.new.self c.waits-2.ensures.root c.waits-2.ensures.items)
+    ∙ ap (λ k. run (items_of m.algebra m.row s.table.now (m.row s.work.band.low) (m.row s.work.band.high) c.waits-2.new.self) (c.args.allowance - k) k) all
+    ∙ ap (λ k. run (items_of m.algebra m.row s.table.now (m.row s.work.band.low) (m.row s.work.band.high) c.waits-2.new.self) k c.args.allowance) none
+
+pub returns-then-waits-clause-is : goal.returns-then-waits-clause-is
+returns-then-waits-clause-is g c = λ held.
+    let m = g.M.Measure in
+    let s = c.steps.self in
+    let f = c.waits-2.new.self in
+    ran_spent _ _ c.args.allowance 0 c.args.allowance _ _ (stopping g (goal.at.returns-then-waits-clause-is g c).After-waits-2 held) (ready_more m.algebra (entries m.row f.root.n s.table.now) (m.row s.work.band.low) (m.row s.work.band.high) f (c.waits-2.ensures.some c.if-waits.true)) refl c.steps.invariant.page
+
+pub returns-else-waits-clause-is : goal.returns-else-waits-clause-is
+returns-else-waits-clause-is g c = λ held.
+    let m = g.M.Measure in
+    let s = c.steps.self in
+    ran_finished _ _ c.args.allowance 0 c.args.allowance _ _ (stopping g (goal.at.returns-else-waits-clause-is g c).After-waits-2 held) (c.waits-2.ensures.none c.if-waits.false (explore_of m.algebra m.row c.waits-2.new.self.root.n s.table.now (m.row s.work.band.low) (m.row s.work.band.high))) c.steps.invariant.page
+
+pub returns-then-examine-clause-is : goal.returns-then-examine-clause-is
+returns-then-examine-clause-is g c = λ held.
+    let m = g.M.Measure in
+    let s = c.steps.self in
     let inv = c.steps.invariant in
-    let root = c.waits.ensures.root ∙ inv.1 in
-    let low = m.row s.work.low in
-    let high = m.row s.work.high in
-    record {
-      same = record { table_same = inv.2; count_same = ap (λ q. q.n) root; size_same = ap (λ q. q.m) root };
-      beyond = ap (drop c.args.self.now.work.frontier.root.m) inv.3;
-      safe = (inv.0, omega (arith, c.if-page-self.false));
-      counted = λ e. let z : ◌≡◌ {A = ℕ} 0 1 = cc in absurd (omega arith);
-      is = λ held.
-          let items = items_of m.algebra m.row s.table.now low high f2 in
-          let left = c.args.allowance - c.steps.steps in
-          let more = ready_more m.algebra (entries m.row f2.root.n s.table.now) low high f2 (c.waits.ensures.some c.steps-test.true) in
-          let whole : run (coming m.algebra m.row c.args.self.now) c.args.allowance 0 ≡ record { end = spent; steps = c.steps.steps; rest = items } =
-          inv.4 held ∙ ap (λ l. run l left c.steps.steps) (same_items g (goal.at.returns-then-steps-allowance g c).After-waits) ∙ run_spent items left c.steps.steps more (omega (arith, c.if-steps-allowance.true)) in
-          subst (λ w. Ran w (record { told = Spent; steps = c.steps.steps }) c.args.page.now c.steps.page items) (sym whole) (record { told = refl; steps = refl; page_is = inv.3; rest = refl });
-    }
-
-pub returns-then-examine : goal.returns-then-examine
-returns-then-examine g c =
-    let m = g.M.Measure in
-    let s = c.steps.self in
-    let f = c.args.self.now.work.frontier in
-    let after = c.examine.new.work in
-    let inv = c.steps.invariant in
-    let before = c.waits.ensures.root ∙ inv.1 in
-    let root = c.examine.ensures.root ∙ before in
-    let many : c.waits.new.self.root.m ≡ f.root.m = ap (λ q. q.m) before in
-    let table = s.table.now in
-    record {
-      same = record { table_same = inv.2; count_same = ap (λ q. q.n) root; size_same = ap (λ q. q.m) root };
-      beyond = ap (λ k. drop k c.examine.new.page) (sym many) ∙ c.examine.ensures.beyond ∙ ap (λ k. drop k c.steps.page) many ∙ ap (drop f.root.m) inv.3;
-      safe = (omega (arith, inv.0, c.if-steps-allowance.false), omega (arith, c.if-page-self.false));
-      counted = λ e. omega arith;
-      is = λ held.
-          let at = (goal.at.returns-then-examine g c).After-waits in
-          let told = c.if-examine.ensures.is (still_sound g at held) in
-          let ps = told.0 in
-          let rest = items_of m.algebra m.row table (m.row s.work.low) (m.row s.work.high) after.frontier in
-          let left_over = items_of m.algebra m.row table (m.row after.low) (m.row after.high) after.frontier in
-          let left = c.args.allowance - c.steps.steps in
-          let whole : run (coming m.algebra m.row c.args.self.now) c.args.allowance 0 ≡ record { end = set ps; steps = c.steps.steps + 1; rest = rest } =
-          inv.4 held ∙ ap (λ l. run l left c.steps.steps) (same_items g at) ∙ run-set _ rest ps left c.steps.steps told.1 (omega (arith, inv.0, c.if-steps-allowance.false)) in
-          subst (λ w. Ran w (record { told = Set; steps = c.steps.steps + 1 }) c.args.page.now c.examine.new.page left_over) (sym whole)
-          (record {
-            told = refl;
-            steps = refl;
-            page_is = told.2 ∙ ap (λ p. ps ++ drop (length ps) p) inv.3;
-            rest = sym (ends_same m.algebra m.row table after.frontier s.work.low after.low s.work.high after.high c.examine.ensures.ends.0 c.examine.ensures.ends.1);
-          });
-    }
+    let told = c.if-examine.ensures.is (held_of m.algebra m.row m.span c.args.self.now.table.now s.table.now c.args.self.now.work.frontier.root c.waits.new.self.root inv.table (c.waits.ensures.root ∙ inv.root) held) in
+    ran-set _ _ _ _ told.0 c.args.allowance (c.args.allowance - c.steps.steps) c.steps.steps _ _ (going_on g (goal.at.returns-then-examine-clause-is g c).After-waits held) told.1 (omega (arith, c.steps-test.true)) (told.2 ∙ ap (λ p. told.0 ++ drop (length told.0) p) inv.page) refl
 
 pub steps-preserved : goal.steps-preserved
 steps-preserved g c =
     let m = g.M.Measure in
     let s = c.steps.self in
-    let after = c.examine.new.work in
     let inv = c.steps.invariant in
-    let table = s.table.now in (
-      omega (arith, inv.0, c.if-steps-allowance.false),
-      c.examine.ensures.root ∙ c.waits.ensures.root ∙ inv.1,
-      inv.2,
-      c.examine.ensures.still c.if-examine.false ∙ inv.3,
-      λ held.
-          let at = (goal.at.steps-preserved g c).After-waits in
-          let told = c.if-examine.ensures.is (still_sound g at held) in
-          let rest = items_of m.algebra m.row table (m.row s.work.low) (m.row s.work.high) after.frontier in
-          let left = c.args.allowance - c.steps.steps in
-          let later = c.args.allowance - (c.steps.steps + 1) in
-          inv.4 held
-          ∙ ap (λ l. run l left c.steps.steps) (same_items g at)
-          ∙ run_none _ rest left later c.steps.steps told.0 (omega (arith, inv.0, c.if-steps-allowance.false))
-          ∙ ap (λ l. run l later (c.steps.steps + 1)) (ends_same m.algebra m.row table after.frontier s.work.low after.low s.work.high after.high c.examine.ensures.ends.0 c.examine.ensures.ends.1),
-    )
+    record {
+      root = c.examine.ensures.root ∙ c.waits.ensures.root ∙ inv.root;
+      table = inv.table;
+      page = c.examine.ensures.still c.if-examine.false ∙ inv.page;
+      is = λ held.
+          let told = c.if-examine.ensures.is (held_of m.algebra m.row m.span c.args.self.now.table.now s.table.now c.args.self.now.work.frontier.root c.waits.new.self.root inv.table (c.waits.ensures.root ∙ inv.root) held) in
+          going_on g (goal.at.steps-preserved g c).After-waits held
+          ∙ run_none _ _ (c.args.allowance - c.steps.steps) (c.args.allowance - (c.steps.steps + 1)) c.steps.steps told.0 (omega (arith, c.steps-test.true));
+    }
 
 pub examine-requires : goal.examine-requires
 examine-requires g c =
     let root = c.waits.ensures.root in
-    let many : c.waits.new.self.root.m ≡ c.args.self.now.work.frontier.root.m = ap (λ q. q.m) (root ∙ c.steps.invariant.1) in (
+    let many : c.waits.new.self.root.m ≡ c.args.self.now.work.frontier.root.m = ap (λ q. q.m) (root ∙ c.steps.invariant.root) in (
       search rules,
       (
         subst (λ q. offset q.n q.m ≤ length c.steps.self.table.now) (sym root) c.steps.self.long,
         (
-          c.waits.ensures.some c.steps-test.true,
+          c.waits.ensures.some c.if-not-waits.false,
           omega (arith, many, c.if-page-self.false, c.steps.auto.page),
         ),
       ),
     )
-
-pub returns : goal.returns
-returns g c =
-    let m = g.M.Measure in
-    let s = c.steps.self in
-    let f2 = c.waits.new.self in
-    let inv = c.steps.invariant in
-    let root = c.waits.ensures.root ∙ inv.1 in
-    let low = m.row s.work.low in
-    let high = m.row s.work.high in
-    record {
-      same = record { table_same = inv.2; count_same = ap (λ q. q.n) root; size_same = ap (λ q. q.m) root };
-      beyond = ap (drop c.args.self.now.work.frontier.root.m) inv.3;
-      safe = (inv.0, omega (arith, c.if-page-self.false));
-      counted = λ e. let z : ◌≡◌ {A = ℕ} 0 1 = cc in absurd (omega arith);
-      is = λ held.
-          let items = items_of m.algebra m.row s.table.now low high f2 in
-          let left = c.args.allowance - c.steps.steps in
-          let none : items ≡ [] = c.waits.ensures.none c.steps-test.false (explore_of m.algebra m.row f2.root.n s.table.now low high) in
-          let whole : run (coming m.algebra m.row c.args.self.now) c.args.allowance 0 ≡ record { end = finished; steps = c.steps.steps; rest = [] } =
-          inv.4 held ∙ ap (λ l. run l left c.steps.steps) (same_items g (goal.at.returns g c).After-waits ∙ none) in
-          subst (λ w. Ran w (record { told = Finished; steps = c.steps.steps }) c.args.page.now c.steps.page items) (sym whole) (record { told = refl; steps = refl; page_is = inv.3; rest = none });
-    }

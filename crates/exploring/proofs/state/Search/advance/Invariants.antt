@@ -1,4 +1,4 @@
-use Rattle.std.proofs.Common.{◌≡◌, ◌-◌, ◌≤◌}
+use Rattle.std.proofs.Common.{◌≡◌, ◌-◌}
 use Rattle.sets.specs.Advance.{run}
 use Rattle.exploring.specs.Meaning.{coming, Sound, table_of}
 use Rattle.exploring.proofs.state.Search.advance.Given as goal
@@ -8,11 +8,9 @@ abbrev pub invariant-steps : goal.invariant-steps
 invariant-steps g l =
     let m = g.M.Measure in
     let s = l.initial.self in
-    (l.steps ≤ l.allowance)
-    × (l.self.work.frontier.root ≡ s.work.frontier.root)
-    × (table_of l.self ≡ table_of s)
-    × (l.page ≡ l.initial.page)
-    × (Sound m.algebra m.row m.span s → run (coming m.algebra m.row s) l.allowance 0 ≡ run (coming m.algebra m.row l.self) (l.allowance - l.steps) l.steps)
-
-abbrev pub decreases-steps : goal.decreases-steps
-decreases-steps g l = l.allowance - l.steps
+    record {
+      root : l.self.work.frontier.root ≡ s.work.frontier.root;
+      table : table_of l.self ≡ table_of s;
+      page : l.page ≡ l.initial.page;
+      is : Sound m.algebra m.row m.span s → run (coming m.algebra m.row s) l.allowance 0 ≡ run (coming m.algebra m.row l.self) (l.allowance - l.steps) l.steps;
+    }
