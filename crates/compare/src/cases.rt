@@ -175,6 +175,7 @@ impl Case {
     }
 
     // The run of its question, where all steps may be known.
+    // Kept: a match, since the kinds are these four and each asks a roll of another type.
     fn run(&self, dice: &mut Dice, known: Option<u32>) -> Result<Run, Failure> {
         let heap = self.heap;
         let drive = Drive { heap, dice, known };

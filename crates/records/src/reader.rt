@@ -22,6 +22,7 @@ pub struct Fault {
 
 impl Fault {
     // The fault of a record with its layer; `question` says whether it is a question record.
+    // Kept: a flag, since a fault may also be of no record, and has no kind then.
     pub fn new(refusal: Refusal, place: usize, question: bool) -> Fault
         ensures { result ≡ fault_of question place refusal }
     {
@@ -135,7 +136,8 @@ impl<'a> Reader<'a> {
         }
     }
 
-    // Kept: the reader has one method for each kind of record, by a rule of the project.
+    // Kept: the reader has one method for each kind of record, by a rule of the project. That it stands at a kind byte each asks,
+    // and no type says it: at the end of a file it does not.
     // Reads the heading at the place.
     fn heading(&mut self) -> Result<Option<Record<'a>>, Fault>
         requires { AtKind self.old 1 }

@@ -21,6 +21,7 @@ pub fn open<'a, M: Measure>(cells: &'a mut [Entry<M>]) -> Roll<'a, M>
     }
 }
 
+// Kept: `len`, `entries`, `get` and `strike` stand here and at the crossed roll, a line each over the ledger that both share.
 impl<'a, M: Measure> Roll<'a, M> {
     // How many stand.
     pub fn len(&self) -> usize

@@ -38,6 +38,7 @@ pub enum Refusal {
 
 impl Refusal {
     // The number of the refusal.
+    // Kept: a number, since files, listings and C programs tell a refusal by it.
     pub fn number(self) -> u8
         ensures { result ≡ number_of self }
     {

@@ -6,6 +6,7 @@ use crate::fixed::Fixed;
 use measure::Measure;
 
 // Writes the total of the lower places before each index.
+// Kept: a loop over indices, since each total is made from the one beside it.
 pub(crate) fn lower_totals<M: Measure>(lo: &Fixed<M>, room: &mut [M])
     requires room { length lo.now.places.now < length room.old }
     ensures { Prefixes M.algebra M.Measure.row M.span lo.now.totals.now lo.now.places.now room.new }

@@ -24,6 +24,7 @@ pub(crate) fn squeeze<M: Measure>(
     ensures { Squeezes (HoldsIn M.algebra M.Measure.row M.span totals.now) totals.now.n lo.old hi.old lo.new hi.new (squeezes M.algebra (entries_in M.Measure.row totals.now) (M.Measure.row band.low) (M.Measure.row band.high) (widths lo.old hi.old) (space lo.old hi.old)) result }
 {
     let Band { low, high } = band;
+    // Kept: loops over indices, since a position looks at its neighbours and at the totals, and then is written.
     'passes: loop {
         let uppers = Fixed {
             totals: &*totals,

@@ -6,6 +6,7 @@ use crate::fixed::Fixed;
 use measure::Measure;
 
 // Writes the total of the upper places from each index on.
+// Kept: a loop over indices, since each total is made from the one beside it.
 pub(crate) fn upper_totals<M: Measure>(hi: &Fixed<M>, room: &mut [M])
     requires room { length hi.now.places.now < length room.old }
     ensures { Suffixes M.algebra M.Measure.row M.span hi.now.totals.now hi.now.places.now room.new }
