@@ -19,6 +19,7 @@ pub const BLANK: Entry = Entry {
 };
 
 // How many stand in front of the first whose number is not smaller than the entry's.
+// Kept: a chain of its own beside that for values, since one for both would take the test as a closure and be no shorter.
 fn place_of(entries: &[Entry], one: Entry) -> usize
     ensures { result ≡ place_for before one entries.now }
 {
