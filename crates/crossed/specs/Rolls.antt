@@ -4,6 +4,7 @@ use Rattle.roll.specs.Cells.{Answer, held, room_of as cells_of}
 use Rattle.crossed.specs.declared.entries.Columns.{Columns}
 use Rattle.crossed.specs.declared.rolls.Roll.{Roll}
 use Rattle.crossed.specs.Entries.{Entry, zero_entry}
+use Rattle.crossed.specs.Reachable.{Reachable}
 use Rattle.crossed.specs.Books.{enters, entered, strikes, struck}
 
 -- what stands
@@ -39,6 +40,10 @@ pub record Struck (was : Roll) (n : ℕ) (r : Answer) (is : Roll) : Type 0 where
   pub columns : is.columns ≡ was.columns
   pub room : room_of is ≡ room_of was
   pub untouched : is_ok r ≡ false → is ≡ was
+
+-- every roll there is stands as opening, entering and striking can lead to
+abbrev pub AlwaysReached : Type 0
+AlwaysReached = (r : Roll) → Reachable r.columns (standing r)
 
 -- beginning anew with d columns
 pub record Reopened (was : Roll) (d : Columns) (is : Roll) : Type 0 where

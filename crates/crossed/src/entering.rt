@@ -4,7 +4,7 @@ ghost use Rattle.roll.specs.Order.{place as place_for};
 ghost use Rattle.roll.specs.Cells.{at};
 ghost use Rattle.crossed.specs.Entries.{zero_entry};
 ghost use Rattle.crossed.specs.Books.{before, enters};
-ghost use Rattle.crossed.specs.Rolls.{standing, room_of, Opened, Entered, Struck, Reopened};
+ghost use Rattle.crossed.specs.Rolls.{standing, room_of, AlwaysReached, Opened, Entered, Struck, Reopened};
 ghost use Rattle.crossed.specs.Reachable.{AlwaysWellFormed};
 
 use crate::entries::{Columns, Entry, NOTHING, in_range, past_zero};
@@ -109,7 +109,9 @@ impl<'a> Roll<'a> {
     }
 }
 
-// Whatever the calls, what stands rises by number, is admitted and is no more than 120.
+// Whatever the calls, what stands rises by number, is admitted and is no more than 120; and on every roll stands what calls can
+// lead to.
 pub fn calls_keep_order()
-    ensures { AlwaysWellFormed }
+    ensures order { AlwaysWellFormed }
+    ensures reached { AlwaysReached }
 {}

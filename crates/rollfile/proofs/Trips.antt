@@ -13,6 +13,7 @@ use Rattle.std.proofs.lemmas.Bool.Decides.{nat_tests}
 use Rattle.crossed.specs.Books.{numbered, put}
 use Rattle.crossed.specs.Reachable.{Rising, Admitted, WellFormed}
 use Rattle.crossed.proofs.Kept.{always_well_formed, well_formed}
+use Rattle.crossed.proofs.Reached.{unnumbered, put_last}
 use Rattle.records.specs.Bytes.{entry_body, entry_bytes, heading_bytes}
 use Rattle.rollfile.specs.Files.{then, stepped, run, opened, reads, writes}
 use Rattle.rollfile.specs.Laws.{Fitting, RoundTrip, SameBytes}
@@ -24,16 +25,6 @@ use Rattle.rollfile.proofs.Digits.{entries_back}
 -- each field of an admitted entry fits
 admitted_fits : (d : Columns) (e : Entry) → Admitted d e → Fitting e
 admitted_fits d e g = grind (arith, nat_tests)
-
--- a number above all others does not stand
-unnumbered : (e : Entry) (xs : List Entry) → AllByRecursion (λ y. y.number < e.number) xs → numbered e.number xs ≡ false
-unnumbered e [] h = refl
-unnumbered e (x ∷ xs) h = grind (arith, nat_tests, unnumbered e xs h.1)
-
--- its entry is put last
-put_last : (e : Entry) (xs : List Entry) → AllByRecursion (λ y. y.number < e.number) xs → put e xs ≡ xs ++ (e ∷ [])
-put_last e [] h = refl
-put_last e (x ∷ xs) h = grind (arith, nat_tests, put_last e xs h.1)
 
 -- one entry's record
 one_more : (d : Columns) (room : ℕ) (e : Entry) (xs : List Entry) (rest : List ℕ) (at : ℕ) → Admitted d e → AllByRecursion (λ y. y.number < e.number) xs → length xs < min 120 room → stepped d room xs at 2 (entry_body e ++ rest) ≡ Ok (xs ++ (e ∷ []))
