@@ -32,7 +32,6 @@ bounded : (z : ℤ) → end_within z ≡ true → Bounded z
 bounded z h = record { least = grind (arith, ints); most = grind (arith, ints) }
 
 fitting : (l h : ℤ) → band_fits l h ≡ true → Column l h
-unfolding band_fits
 fitting l h t =
     let p = and_parts (le_z l h && end_within l) (end_within h) t in
     let q = and_parts (le_z l h) (end_within l) p.0 in

@@ -16,7 +16,7 @@ abbrev pub end_within : ℤ → Bool
 end_within z = int_le (negsuc 19999999999999) z && int_le z (pos 20000000000000)
 
 -- low is not above high, and both are in range
-unfoldable pub band_fits : ℤ → ℤ → Bool
+abbrev pub band_fits : ℤ → ℤ → Bool
 band_fits low high = int_le low high && end_within low && end_within high
 
 -- each of the columns has a band

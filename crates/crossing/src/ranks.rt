@@ -32,8 +32,8 @@ pub(crate) fn ranked(rank: i64, a: Amounts) -> Ranked
 
 // What is made of the two numbers in each column.
 fn in_each<F: Fn(i64, i64) -> i64>(a: Amounts, b: Amounts, make: F) -> Amounts
-    requires { EachTwo (λ x y. F.pre make x y) a b }
-    ensures { EachThree (λ x y z. F.post make x y z) a b result }
+    requires { EachTwo (F.pre make) a b }
+    ensures { EachThree (F.post make) a b result }
 {
     Amounts {
         first: make(a.first, b.first),
