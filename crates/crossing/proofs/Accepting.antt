@@ -47,19 +47,14 @@ zeros l h p q = record {
   order = grind (arith, ints);
 }
 
-all_zeros : (xs ys : List ℤ) → list_all is_zero xs ≡ true → list_all is_zero ys ≡ true → AllByRecursion (λ p. Column p.0 p.1) (zip xs ys)
-all_zeros [] ys p q = tt
-all_zeros (x ∷ xs) [] p q = tt
-all_zeros (x ∷ xs) (y ∷ ys) p q =
-    let p2 = and_parts (is_zero x) (list_all is_zero xs) p in
-    let q2 = and_parts (is_zero y) (list_all is_zero ys) q in
-    (zeros x y p2.0 q2.0, all_zeros xs ys p2.1 q2.1)
-
 -- the first n columns fit, and the others are zero
 all_fit : (n : ℕ) (xs ys : List ℤ) → list_all (λ p. band_fits p.0 p.1) (take n (zip xs ys)) ≡ true → list_all is_zero (drop n xs) ≡ true → list_all is_zero (drop n ys) ≡ true → AllByRecursion (λ p. Column p.0 p.1) (zip xs ys)
-all_fit zero xs ys t p q = all_zeros xs ys p q
-all_fit (suc n) [] ys t p q = tt
-all_fit (suc n) (x ∷ xs) [] t p q = tt
+all_fit n [] ys t p q = tt
+all_fit n (x ∷ xs) [] t p q = tt
+all_fit zero (x ∷ xs) (y ∷ ys) t p q =
+    let p2 = and_parts (is_zero x) (list_all is_zero xs) p in
+    let q2 = and_parts (is_zero y) (list_all is_zero ys) q in
+    (zeros x y p2.0 q2.0, all_fit zero xs ys t p2.1 q2.1)
 all_fit (suc n) (x ∷ xs) (y ∷ ys) t p q =
     let t2 = and_parts (band_fits x y) (list_all (λ p. band_fits p.0 p.1) (take n (zip xs ys))) t in
     (fitting x y t2.0, all_fit n xs ys t2.1 p q)
@@ -96,13 +91,10 @@ small z h = record { least = grind (arith, ints); most = grind (arith, ints) }
 zero-small : (z : ℤ) → is_zero z ≡ true → Small z
 zero-small z h = record { least = grind (arith, ints); most = grind (arith, ints) }
 
-zeros-small : (xs : List ℤ) → list_all is_zero xs ≡ true → AllByRecursion Small xs
-zeros-small [] p = tt
-zeros-small (x ∷ xs) p = let p2 = and_parts (is_zero x) (list_all is_zero xs) p in (zero-small x p2.0, zeros-small xs p2.1)
-
+-- the first n amounts are in range, and the others are zero
 all_small : (n : ℕ) (xs : List ℤ) → list_all within (take n xs) ≡ true → list_all is_zero (drop n xs) ≡ true → AllByRecursion Small xs
-all_small zero xs r p = zeros-small xs p
-all_small (suc n) [] r p = tt
+all_small n [] r p = tt
+all_small zero (x ∷ xs) r p = let p2 = and_parts (is_zero x) (list_all is_zero xs) p in (zero-small x p2.0, all_small zero xs r p2.1)
 all_small (suc n) (x ∷ xs) r p = let r2 = and_parts (within x) (list_all within (take n xs)) r in (small x r2.0, all_small n xs r2.1 p)
 
 small_columns : (d : Columns) (a : Amounts) → in_range d a ≡ true → past_zero d a ≡ true → Each Small a

@@ -62,7 +62,7 @@ shadows_more α p (y ∷ ys) x =
     ap (λ l. shadow α p y ∷ l) (shadows_more α (suc p) ys x ∙ ap (λ q. shadows α (suc p) ys ++ (shadow α q x ∷ [])) k)
 
 -- the amounts of an entry are bounded
-pub bounded_at : (xs : List Entry) (i : ℕ) (one : Entry) → Ranged xs → i < length xs → one ≡ get_or xs i one → Each Bounded one.value
+bounded_at : (xs : List Entry) (i : ℕ) (one : Entry) → Ranged xs → i < length xs → one ≡ get_or xs i one → Each Bounded one.value
 bounded_at xs i one ranged here at = each_bounded one.value (subst (λ o. Each Small o.value) (sym at) (All-get_or (λ o. Each Small o.value) xs i one here ranged))
 
 -- one shadow more
