@@ -1,5 +1,5 @@
 -- The shadows of entries, one after another.
-use Rattle.std.proofs.Common.{◌≡◌, ℕ, suc, ◌+◌, ◌<◌, ◌≤◌, max, List, [], ◌∷◌, ◌++◌, length, get_or, take, set, ℤ, pos, negsuc, ◌+ℤ◌, ◌*ℤ◌, ◌≤ℤ◌, sym, refl, ap, ◌∙◌, subst, ap₂, add-zero, arith}
+use Rattle.std.proofs.Common.{◌≡◌, ℕ, suc, ◌+◌, ◌<◌, ◌≤◌, max, List, [], ◌∷◌, ◌++◌, length, get_or, take, set, ℤ, pos, negsuc, ◌+ℤ◌, ◌*ℤ◌, ◌≤ℤ◌, sym, ap, ◌∙◌, subst, ap₂, add-zero, arith}
 use Rattle.std.specs.List.{AllByRecursion}
 use Rattle.std.proofs.lemmas.List.{take_more, take-set-le, get_or-set_same, length-map, length-take-le, map-append, length-set}
 use Rattle.std.proofs.ByRecursion.{All-get_or, All-push}
@@ -8,11 +8,11 @@ use Rattle.measure.specs.Algebra.{Row}
 use Rattle.measure.specs.Cents.{span_of}
 use Rattle.sets.specs.Crossings.{cell}
 use Rattle.sets.specs.Crossed.{shadow, shadows}
-use Rattle.roll.specs.declared.straight.Entry.{Entry as Shadow}
+use Rattle.roll.specs.declared.entry.Entry.{Entry as Shadow}
 use Rattle.roll.specs.Totals.{rows_of as rows_by}
 use Rattle.crossed.specs.declared.entries.Amounts.{Amounts}
-use Rattle.crossed.specs.declared.entries.Entry.{Entry}
-use Rattle.crossing.specs.Ranks.{Rank, rank_row, rank_span, row_of, rows_of, Fallen, Small, Bounded, Each, Ranged}
+use Rattle.crossed.specs.Entries.{Entry, row_of}
+use Rattle.crossing.specs.Ranks.{Rank, rank_row, rank_span, rows_of, Fallen, Small, Bounded, Each, Ranged}
 use Rattle.crossing.specs.Beginning.{Casts}
 use Rattle.crossing.proofs.Shadows.{raise}
 
@@ -61,27 +61,27 @@ shadows_more α p (y ∷ ys) x =
     let k : suc p + length ys ≡ p + length (y ∷ ys) = omega arith in
     ap (λ l. shadow α p y ∷ l) (shadows_more α (suc p) ys x ∙ ap (λ q. shadows α (suc p) ys ++ (shadow α q x ∷ [])) k)
 
-pub casts_none : (α : Row) (xs : List Entry) (ys : List (Shadow Rank)) → Casts α (take 0 xs) (take 0 ys)
-casts_none α xs ys = record { rows = refl; small = tt }
+-- the amounts of an entry are bounded
+bounded_at : (xs : List Entry) (i : ℕ) (one : Entry) → Ranged xs → i < length xs → one ≡ get_or xs i one → Each Bounded one.value
+bounded_at xs i one ranged here at = each_bounded one.value (subst (λ o. Each Small o.value) (sym at) (All-get_or (λ o. Each Small o.value) xs i one here ranged))
 
 -- one shadow more
-pub casts_more : (falls : Amounts) (xs : List Entry) (ys : List (Shadow Rank)) (i : ℕ) (one : Entry) (e : Shadow Rank) → Ranged xs → Each Fallen falls → i < length xs → i < length ys → i < 120 → one ≡ get_or xs i one → (Each Fallen falls → Each Bounded one.amounts → i + 1 ≤ 7260 → rank_row e.value ≡ shadow (row_of falls) (i + 1) (row_of one.amounts)) → Casts (row_of falls) (take i xs) (take i ys) → Casts (row_of falls) (take (i + 1) xs) (take (i + 1) (set ys i e))
-casts_more falls xs ys i one e ranged fallen here room few at told was =
+pub casts_more : (falls : Amounts) (xs : List Entry) (ys : List (Shadow Rank)) (i : ℕ) (one : Entry) (e : Shadow Rank) → Ranged xs → Each Fallen falls → i < length xs → length xs ≤ 120 → i < length ys → one ≡ get_or xs i one → rank_row e.value ≡ shadow (row_of falls) (i + 1) (row_of one.value) → Casts (row_of falls) (take i xs) (take i ys) → Casts (row_of falls) (take (i + 1) xs) (take (i + 1) (set ys i e))
+casts_more falls xs ys i one e ranged fallen here few room at row was =
     let α : Row = row_of falls in
-    let b = each_bounded one.amounts (subst (λ o. Each Small o.amounts) (sym at) (All-get_or (λ o. Each Small o.amounts) xs i one here ranged)) in
-    let row = told fallen b (omega arith) in
+    let b = bounded_at xs i one ranged here at in
     let ys_more : take (i + 1) (set ys i e) ≡ take i ys ++ (e ∷ []) =
     take_more (set ys i e) i e (omega (arith, length-set ys i e)) ∙ ap₂ (λ l x. l ++ (x ∷ [])) (take-set-le i ys i e (omega arith)) (get_or-set_same ys i e e room) in
     let xs_more : take (i + 1) xs ≡ take i xs ++ (one ∷ []) = take_more xs i one here ∙ ap (λ o. take i xs ++ (o ∷ [])) (sym at) in
-    let many : length (rows_of (take i xs)) ≡ i = length-map (take i xs) (λ o. row_of o.amounts) ∙ length-take-le i xs (omega arith) in
+    let many : length (rows_of (take i xs)) ≡ i = length-map (take i xs) (λ o. row_of o.value) ∙ length-take-le i xs (omega arith) in
     let place : 1 + length (rows_of (take i xs)) ≡ i + 1 = omega arith in
     record {
       rows =
           ap (rows_by rank_row) ys_more ∙ map-append (λ o. rank_row o.value) (take i ys) (e ∷ [])
           ∙ ap₂ (λ l r. l ++ (r ∷ [])) was.rows row
-          ∙ ap (λ k. shadows α 1 (rows_of (take i xs)) ++ (shadow α k (row_of one.amounts) ∷ [])) (sym place)
-          ∙ sym (shadows_more α 1 (rows_of (take i xs)) (row_of one.amounts))
-          ∙ ap (shadows α 1) (sym (map-append (λ o. row_of o.amounts) (take i xs) (one ∷ [])))
+          ∙ ap (λ k. shadows α 1 (rows_of (take i xs)) ++ (shadow α k (row_of one.value) ∷ [])) (sym place)
+          ∙ sym (shadows_more α 1 (rows_of (take i xs)) (row_of one.value))
+          ∙ ap (shadows α 1) (sym (map-append (λ o. row_of o.value) (take i xs) (one ∷ [])))
           ∙ ap (λ l. shadows α 1 (rows_of l)) (sym xs_more);
-      small = subst (AllByRecursion (λ o. rank_span o.value ≤ 1)) (sym ys_more) (All-push (λ o. rank_span o.value ≤ 1) (take i ys) e was.small (rank_small e.value falls one.amounts (i + 1) fallen b (omega arith) row));
+      small = subst (AllByRecursion (λ o. rank_span o.value ≤ 1)) (sym ys_more) (All-push (λ o. rank_span o.value ≤ 1) (take i ys) e was.small (rank_small e.value falls one.value (i + 1) fallen b (omega arith) row));
     }

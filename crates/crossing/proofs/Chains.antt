@@ -35,8 +35,8 @@ ended ys all steps spent n rest h = refl
 ended ys all steps finished n rest h = absurd (h refl)
 
 passed : (ys : Trace) (all steps : ℕ) (e : End) (n : ℕ) (rest : Trace) → told_of e ≡ Finished → goes_on ys all steps e n rest ≡ run ys (all - n) (steps + n)
-passed ys all steps (set ps) n rest h = let z : ◌≡◌ {A = ℕ} 0 1 = cc in absurd (omega arith)
-passed ys all steps spent n rest h = let z : ◌≡◌ {A = ℕ} 0 1 = cc in absurd (omega arith)
+passed ys all steps (set ps) n rest h = cc
+passed ys all steps spent n rest h = cc
 passed ys all steps finished n rest h = refl
 
 -- a run that ends within the first trace
@@ -50,10 +50,10 @@ run_passes xs ys left steps h = chained_from xs ys left steps ∙ passed ys left
 -- a run that finished has nothing left
 pub run-over : (xs : Trace) (left k : ℕ) → told_of (run xs left k).end ≡ Finished → (run xs left k).rest ≡ []
 run-over [] left k h = refl
-run-over (None ∷ xs) zero k h = let z : ◌≡◌ {A = ℕ} 0 1 = cc in absurd (omega arith)
-run-over (Some ps ∷ xs) zero k h = let z : ◌≡◌ {A = ℕ} 0 1 = cc in absurd (omega arith)
+run-over (None ∷ xs) zero k h = cc
+run-over (Some ps ∷ xs) zero k h = cc
 run-over (None ∷ xs) (suc left) k h = run-over xs left (k + 1) h
-run-over (Some ps ∷ xs) (suc left) k h = let z : ◌≡◌ {A = ℕ} 0 1 = cc in absurd (omega arith)
+run-over (Some ps ∷ xs) (suc left) k h = cc
 
 -- the first of the rank totals that are left, and the others
 pub flat_map_next : (f : ℕ → Trace) (r last : ℕ) → r < last → flat_map f (range_with_len (r + 1) (last - r)) ≡ f (r + 1) ++ flat_map f (range_with_len (r + 1 + 1) (last - (r + 1)))

@@ -1,4 +1,5 @@
 pub mod Shadows
+pub mod Totals
 pub mod Falling
 pub mod Casting
 pub mod Chains

@@ -1,14 +1,13 @@
 // Questions to a crossed roll: which are accepted.
-ghost use Rattle.std.specs.Prelude.{◌≡◌, ◌&&◌, length};
+ghost use Rattle.std.specs.Prelude.{◌≡◌, length};
 ghost use Rattle.crossing.specs.Asking.{end_within, band_fits, bands_fit, asking};
-ghost use Rattle.crossed.specs.Entries.{past_zero};
 ghost use Rattle.crossed.specs.Rolls.{standing};
-ghost use Rattle.crossed.specs.declared.entries.Columns.TheVariants.{Two, Three, Four};
 
 use crate::ranks::Ranked;
 use crossed::asked::Question;
 use crossed::entries::{Amounts, Columns, past_zero};
 use crossed::rolls::Roll;
+use measure::Band;
 use question::asking::{Side, has_room, size_fits};
 use roll::refusal::Refusal;
 
@@ -16,7 +15,7 @@ use roll::refusal::Refusal;
 fn end_within(z: i64) -> bool
     ensures { result ≡ end_within z }
 {
-    -20_000_000_000_000 <= z && z <= 20_000_000_000_000
+    (-20_000_000_000_000..=20_000_000_000_000).contains(&z)
 }
 
 // Whether two ends make a band, both in range.
@@ -26,50 +25,16 @@ fn band_fits(low: i64, high: i64) -> bool
     low <= high && end_within(low) && end_within(high)
 }
 
-// Whether each of the first two columns has a band.
-fn two_fit(low: Amounts, high: Amounts) -> bool
-    ensures { result ≡ bands_fit Two low high }
-{
-    let first = band_fits(low.first, high.first);
-    let second = band_fits(low.second, high.second);
-    first && second
-}
-
-// Whether each of the first three columns has a band.
-fn three_fit(low: Amounts, high: Amounts) -> bool
-    ensures { result ≡ bands_fit Three low high }
-{
-    let two = two_fit(low, high);
-    let third = band_fits(low.third, high.third);
-    two && third
-}
-
-// Whether each of the four columns has a band.
-fn four_fit(low: Amounts, high: Amounts) -> bool
-    ensures { result ≡ bands_fit Four low high }
-{
-    let three = three_fit(low, high);
-    let fourth = band_fits(low.fourth, high.fourth);
-    three && fourth
-}
-
 // Whether each column has a band.
-fn bands_fit(columns: Columns, low: Amounts, high: Amounts) -> bool
-    ensures { result ≡ bands_fit columns low high }
+fn bands_fit(columns: Columns, band: Band<Amounts>) -> bool
+    ensures { result ≡ bands_fit columns band }
 {
-    match columns {
-        Columns::One => band_fits(low.first, high.first),
-        Columns::Two => two_fit(low, high),
-        Columns::Three => three_fit(low, high),
-        Columns::Four => four_fit(low, high),
-    }
-}
-
-// Whether the ends past the columns are zero.
-fn ends_past_zero(columns: Columns, asked: Question) -> bool
-    ensures { result ≡ (past_zero columns asked.low && past_zero columns asked.high) }
-{
-    past_zero(columns, asked.low) && past_zero(columns, asked.high)
+    let low = band.low.row();
+    let high = band.high.row();
+    low.iter()
+        .zip(high.iter())
+        .take(usize::from(columns.count()))
+        .all(|(l, h)| band_fits(*l, *h))
 }
 
 // What a question is answered where n entries stand, with a table of so many values: the first refusal that holds.
@@ -79,13 +44,13 @@ fn judge(columns: Columns, n: usize, asked: Question, room: usize) -> Result<(),
     if !size_fits(Side::Paid, n, asked.size) {
         return Err(Refusal::BadSize);
     }
-    if !bands_fit(columns, asked.low, asked.high) {
+    if !bands_fit(columns, asked.band) {
         return Err(Refusal::BadBand);
     }
     if !has_room(n, asked.size, room) {
         return Err(Refusal::ShortTable);
     }
-    if !ends_past_zero(columns, asked) {
+    if !past_zero(columns, asked.band.low) || !past_zero(columns, asked.band.high) {
         return Err(Refusal::PastColumns);
     }
     Ok(())

@@ -1,25 +1,24 @@
-use Rattle.std.proofs.Common.{◌-◌, get_or, pos, refl, arith}
-use Rattle.std.proofs.lemmas.Int.{ints}
-use Rattle.std.proofs.lemmas.List.{get_or_default}
-use Rattle.crossed.specs.Entries.{zero_entry}
-use Rattle.crossing.specs.Ranks.{Fallen}
-use Rattle.crossing.proofs.Falling.{fell_none, fell_more, fell_all}
+use Rattle.std.proofs.Common.{◌≡◌, ◌≤◌, length, take, ap, ◌∙◌, subst, arith, rules}
+use Rattle.crossing.proofs.Falling.{Fell, fell_none, fell_more, fell_all}
 use Rattle.crossing.proofs.ranks.falls.Goals as goal
 
-pub loop-i-init : goal.loop-i-init
-loop-i-init c = λ ranged.
-    let zero : Fallen (pos 0) = record { least = omega (arith, ints); most = omega (arith, ints) } in
-    fell_none c.args.entries.now _ refl (record { first = zero; second = zero; third = zero; fourth = zero })
-
-pub loop-i-preserved : goal.loop-i-preserved
-loop-i-preserved c = λ ranged.
+pub loop-pair-init : goal.loop-pair-init
+loop-pair-init c =
     let xs = c.args.entries.now in
-    let i = c.loop-i.i in
-    let x = get_or xs (i - 1) zero_entry in
-    let y = get_or xs i zero_entry in
-    fell_more xs i x y c.loop-i.most c.fall.result c.greater-most.result ranged c.loop-i.auto.i c.loop-i-test.true
-    (get_or_default xs (i - 1) zero_entry x (omega arith)) (get_or_default xs i zero_entry y c.loop-i-test.true)
-    c.fall.ensures c.greater-most.ensures (c.loop-i.invariant ranged)
+    let whole : xs ≡ c.into_iter-pair-iterator.result.rest.now = search rules in
+    (search rules, subst (λ l. Fell xs l _) whole (fell_none xs c.requires))
+
+pub loop-pair-preserved : goal.loop-pair-preserved
+loop-pair-preserved c =
+    let two = c.loop-pair.invariant.0 in
+    let left = c.loop-pair.pair-iterator.rest.now in
+    let went = c.in-Some.ensures.steps in (
+      went.0 ∙ two,
+      fell_more c.args.entries.now left c.next.new.self.rest.now c.in-Some.pair.now c.loop-pair.most c.fall.result c.greater-most.result (subst (λ n. n ≤ length left) two went.1.0)
+          (went.1.1 ∙ ap (λ n. take n left) two) went.1.2 c.fall.ensures c.greater-most.ensures c.loop-pair.invariant.1,
+    )
 
 pub returns : goal.returns
-returns c = λ ranged. fell_all c.args.entries.now c.loop-i.i c.loop-i.most c.loop-i-test.false (c.loop-i.invariant ranged)
+returns c =
+    let went = c.in-None.ensures.steps in
+    fell_all c.args.entries.now c.loop-pair.pair-iterator.rest.now c.loop-pair.most (omega (arith, went.1.0, c.loop-pair.invariant.0)) c.loop-pair.invariant.1

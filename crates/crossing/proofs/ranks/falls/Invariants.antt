@@ -1,6 +1,6 @@
-use Rattle.crossing.specs.Ranks.{Ranged}
+use Rattle.std.proofs.Common.{◌≡◌}
 use Rattle.crossing.proofs.Falling.{Fell}
 use Rattle.crossing.proofs.ranks.falls.Given as goal
 
-abbrev pub invariant-loop-i : goal.invariant-loop-i
-invariant-loop-i l = Ranged l.entries → Fell l.entries l.i l.most
+abbrev pub invariant-loop-pair : goal.invariant-loop-pair
+invariant-loop-pair l = (l.pair-iterator.size ≡ 2) × Fell l.entries l.pair-iterator.rest.now l.most

@@ -1,9 +1,12 @@
-use Rattle.std.proofs.Common.{w64, SFits, rules}
-use Rattle.crossing.proofs.Shadows.{exact_bits}
+use Rattle.crossing.proofs.Shadows.{shadow_fits, shadow_is}
 use Rattle.crossing.proofs.ranks.shadowed.Goals as goal
 
+pub overflow_add-result : goal.overflow_add-result
+overflow_add-result c =
+    let r = c.requires in
+    shadow_fits c.args.fall c.args.amount c.from.result c.args.rank r.fallen r.bounded c.from.ensures r.few
+
 pub returns : goal.returns
-returns c = λ b h l.
-    let mul : SFits w64 c.saturating_mul.result = search rules in
-    let add : SFits w64 c.saturating_add.result = search rules in
-    exact_bits c.args.amount c.args.fall c.from.result c.args.rank c.saturating_mul.result c.saturating_add.result c.ranges.amount c.ranges.fall mul add c.from.ensures c.saturating_mul.ensures c.saturating_add.ensures b h l
+returns c =
+    let r = c.requires in
+    shadow_is c.args.fall c.args.amount c.from.result c.args.rank r.fallen r.bounded c.from.ensures r.few
