@@ -7,8 +7,8 @@ use crossed::entering::open;
 use crossed::entries::{Amounts, Columns};
 use crossed::rolls;
 use crossing::asking::check;
+use crossing::beginning::begin;
 use crossing::ranks::Ranked;
-use crossing::state::begin;
 use measure::Measure;
 use roll::refusal::Refusal;
 

@@ -8,8 +8,8 @@ use Rattle.sets.specs.Crossings.{Crosses}
 use Rattle.sets.proofs.Crossed.{crossed_sound}
 use Rattle.exploring.specs.Meaning.{size_of}
 use Rattle.crossed.specs.declared.asked.Question.{Question}
-use Rattle.crossed.specs.Entries.{Entry}
-use Rattle.crossing.specs.Ranks.{Rank, row_of, rows_of}
+use Rattle.crossed.specs.Entries.{Entry, row_of}
+use Rattle.crossing.specs.Ranks.{Rank, rows_of}
 use Rattle.crossing.specs.Meaning.{to_come}
 use Rattle.crossing.specs.Beginning.{Starts}
 use Rattle.crossing.specs.declared.state.Search.{Search}

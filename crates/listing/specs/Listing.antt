@@ -7,11 +7,10 @@ use Rattle.sets.specs.Trace.{Trace, somes}
 use Rattle.roll.specs.Refusals.{number_of}
 use Rattle.roll.specs.declared.refusal.Refusal.{Refusal}
 use Rattle.crossing.specs.Asking.{asking}
-use Rattle.crossing.specs.Ranks.{row_of}
 use Rattle.crossed.specs.Books.{if_ok}
 use Rattle.crossed.specs.declared.asked.Question.{Question}
 use Rattle.crossed.specs.declared.entries.Columns.{Columns}
-use Rattle.crossed.specs.Entries.{Entry}
+use Rattle.crossed.specs.Entries.{Entry, row_of}
 use Rattle.records.specs.Bytes.{asked_of}
 use Rattle.rollfile.specs.Files.{then, applied, opened}
 use Rattle.rollfile.specs.Writing.{written, output_after}

@@ -5,7 +5,7 @@ ghost use Rattle.sets.specs.Trace.{somes};
 ghost use Rattle.exploring.specs.Meaning.{size_of};
 ghost use Rattle.crossed.specs.Rolls.{standing};
 ghost use Rattle.crossing.specs.Asking.{asking};
-ghost use Rattle.crossing.specs.Meaning.{Keeps, to_come};
+ghost use Rattle.crossing.specs.Meaning.{to_come};
 ghost use Rattle.listing.specs.Text.{Puts, Writes};
 ghost use Rattle.listing.specs.Listing.{numbers as numbers_at, set_line, sets_lines, question_lines};
 
@@ -13,8 +13,9 @@ use crate::text::Text;
 use crossed::asked::Question;
 use crossed::entries::Entry;
 use crossed::rolls::Roll;
+use crossing::beginning::begin;
 use crossing::ranks::Ranked;
-use crossing::state::{Search, begin};
+use crossing::state::Search;
 use exploring::state::Told;
 
 // How many steps a question may take.
@@ -41,7 +42,7 @@ fn put_set(text: &mut Text, entries: &[Entry], places: &[u16]) -> Option<()>
 
 // A line for each set that the Search hands out within its steps, and one that says how it ended.
 fn put_sets(text: &mut Text, entries: &[Entry], state: &mut Search) -> Option<()>
-    ensures lines { Keeps state.old → AllByRecursion (λ s. length s ≡ size_of state.old.straight) (somes (to_come state.old)) → Puts text.old (sets_lines entries.now (to_come state.old)) result text.new }
+    ensures lines { AllByRecursion (λ s. length s ≡ size_of state.old.straight) (somes (to_come state.old)) → Puts text.old (sets_lines entries.now (to_come state.old)) result text.new }
     ensures writes { Writes text.old result text.new }
 {
     let mut page = [0u16; 120];

@@ -74,11 +74,9 @@ impl<'a> Walk<'a> {
         let Some(item) = reader.next()? else {
             return Ok(None);
         };
-        // Kept: of a fault that a closure of `map_err` makes, the proof learns nothing that it can cite.
-        match attempt(&mut self.roll, item, table) {
-            Ok(()) => Ok(Some(item)),
-            Err(refusal) => Err(Fault::new(refusal, place, is_question(item))),
-        }
+        let asks = is_question(item);
+        attempt(&mut self.roll, item, table).map_err(|refusal| Fault::new(refusal, place, asks))?;
+        Ok(Some(item))
     }
 
     // The first fault of the records that are left, those of questions included.

@@ -18,11 +18,11 @@ returns-clause-lines c = λ accepted.
     let was = c.args.table.now in
     let s = c.begin-state.result in
     let fits = accepted_fits roll.columns (length xs) q (length was) (well_formed roll).2 accepted in
-    let starts = subst (BeginsBy roll.columns xs q was s) accepted c.begin-state.ensures in
+    let starts = subst (BeginsBy xs q was s) accepted c.begin-state.ensures in
     let sized = starts_sized xs q was s fits.some fits.most starts in
     let puts : Puts c.line.new.self (sets_lines xs (coming xs q)) c.put_sets.result c.put_sets.new.text =
     subst (λ t. Puts c.line.new.self (sets_lines xs t) c.put_sets.result c.put_sets.new.text) starts.comes
-    (subst (λ l. Puts c.line.new.self (sets_lines l (to_come s)) c.put_sets.result c.put_sets.new.text) c.entries.ensures (c.put_sets.ensures.lines starts.keeps sized)) in
+    (subst (λ l. Puts c.line.new.self (sets_lines l (to_come s)) c.put_sets.result c.put_sets.new.text) c.entries.ensures (c.put_sets.ensures.lines sized)) in
     puts_then c.args.text.now c.line.new.self c.put_sets.new.text (line 81 (c.args.ordinal ∷ q.size ∷ [])) (sets_lines xs (coming xs q)) c.put_sets.result c.in_ok-line.ensures puts
 
 pub returns-clause-writes : goal.returns-clause-writes
