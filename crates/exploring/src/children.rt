@@ -5,7 +5,7 @@ ghost use Rattle.exploring.specs.Settled.{SettledBelow};
 use squeezing::frame::Frame;
 
 // The child of a space with its first open position, at index `i`, at place `v`: the lower places past it are pushed up.
-// Kept: a loop over indices, since after one over `lo[i..m].iter_mut().zip(v..)` a proof knows no place of `lo`.
+// Kept: a loop over indices: after `lo[i..m].iter_mut().zip(v..)` a proof knows no place, and `from_fn` makes all 120 at each step.
 pub(crate) fn child(frame: Frame, i: usize, v: u16) -> Frame
     requires open { i < frame.m }
     requires place { (slice_index frame.lo i ≤ v) × (v ≤ slice_index frame.hi i) }

@@ -6,7 +6,6 @@ use arrayvec::ArrayVec;
 use squeezing::frame::Frame;
 
 // The spaces that wait: the first one, if it is fresh, or the children of the spaces on the way down, a level for each.
-// Kept: `climbs`, `sizes` and `counts` apart, so that a proof names the one it needs.
 // Kept: `fresh` is a flag, since the root stays for its sizes and for the next restart; an Option would hold it twice.
 #[derive(Drop)]
 pub struct Frontier {

@@ -31,7 +31,7 @@ impl Frontier {
     }
 
     // The next space.
-    // Kept: the level is written out, since a struct with ghost fields takes no `..level`.
+    // Kept: the level is written out: `..level` is refused beside ghost fields, and over `self.levels[top].next += 1` no proof closed.
     pub(crate) fn take(&mut self) -> Frame
         requires { Ready self.old }
         ensures root { (self.new.root ≡ self.old.root) × (self.new.fresh ≡ false) }

@@ -30,16 +30,13 @@ fn put_on(text: &mut Text, walk: &mut Walk, table: &mut [Ranked]) -> Option<()>
     ensures writes { Writes text.old result text.new }
 {
     let mut ordinal = 0usize;
-    'records: loop {
-        let Ok(Some(item)) = walk.step(table) else {
-            return Some(());
-        };
-        let Some(asked) = question_of(item) else {
-            continue;
-        };
-        ordinal = ordinal.saturating_add(1);
-        put_question(text, ordinal, &walk.roll, asked, table)?;
+    'records: while let Ok(Some(item)) = walk.step(table) {
+        if let Some(asked) = question_of(item) {
+            ordinal = ordinal.saturating_add(1);
+            put_question(text, ordinal, &walk.roll, asked, table)?;
+        }
     }
+    Some(())
 }
 
 // The lines of all questions of a file that has no fault; none where they do not fit the output.

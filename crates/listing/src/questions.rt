@@ -40,7 +40,7 @@ fn put_set(text: &mut Text, entries: &[Entry], places: &[u16]) -> Option<()>
     text.put(b"\n")
 }
 
-// A line for each set that the Search hands out within its steps, and one that says how it ended.
+// A line for each set that the search hands out within its steps, and one that says how it ended.
 fn put_sets(text: &mut Text, entries: &[Entry], state: &mut Search) -> Option<()>
     ensures lines { AllByRecursion (λ s. length s ≡ size_of state.old.straight) (somes (to_come state.old)) → Puts text.old (sets_lines entries.now (to_come state.old)) result text.new }
     ensures writes { Writes text.old result text.new }
@@ -61,7 +61,7 @@ fn put_sets(text: &mut Text, entries: &[Entry], state: &mut Search) -> Option<()
     }
 }
 
-// The lines of an accepted question: its ordinal and size, its sets, and how the Search ended.
+// The lines of an accepted question: its ordinal and size, its sets, and how the search ended.
 pub(crate) fn put_question(
     text: &mut Text,
     ordinal: usize,

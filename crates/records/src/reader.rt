@@ -26,7 +26,10 @@ impl Fault {
     pub fn new(refusal: Refusal, place: usize, question: bool) -> Fault
         ensures { result ≡ fault_of question place refusal }
     {
-        let layer = if refusal.number() > 11 {
+        let layer = if matches!(
+            refusal,
+            Refusal::UnknownKind | Refusal::ShortRecord | Refusal::Misplaced | Refusal::TooLong
+        ) {
             Layer::File
         } else if question {
             Layer::Question

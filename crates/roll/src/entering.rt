@@ -21,7 +21,7 @@ pub fn open<'a, M: Measure>(cells: &'a mut [Entry<M>]) -> Roll<'a, M>
     }
 }
 
-// Kept: `len`, `entries`, `get` and `strike` stand here and at the crossed roll, a line each over the ledger that both share.
+// Kept: `len`, `entries`, `get` and `strike` stand here and at the crossed roll, since a type of one's own lends no field's methods.
 impl<'a, M: Measure> Roll<'a, M> {
     // How many stand.
     pub fn len(&self) -> usize

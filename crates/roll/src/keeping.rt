@@ -26,6 +26,7 @@ fn close_gap<V: Copy>(cells: &mut [Entry<V>], index: usize)
 }
 
 // Sets each cell to the entry.
+// Kept: a loop, since the slice's `fill` asks that a clone cannot fail, which `Copy` does not promise.
 fn fill<V: Copy>(cells: &mut [Entry<V>], one: Entry<V>)
     ensures { cells.new ≡ replicate (length cells.old) one }
 {

@@ -39,6 +39,7 @@ pub(crate) fn compares<M: Measure>(entries: &[Entry<M>], one: Entry<M>) -> bool
 }
 
 // What the entries come to.
+// Kept: a loop that folds `plus`, by a rule of the project.
 pub(crate) fn sum<M: Measure>(entries: &[Entry<M>]) -> M
     ensures { Few M.span entries.now → Totals M.algebra M.Measure.row M.span entries.now result }
 {

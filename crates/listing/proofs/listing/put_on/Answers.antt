@@ -23,8 +23,8 @@ returns-in_err-put_question-clause-lines c = λ bs whole.
     subst (λ a. Puts c.args.text.now bs a e) (sym none)
     (left_stop t l.walk l.ordinal c.args.text.now l.text bs (l.invariant.2 bs whole) r is (subst (λ n. Takes n l.walk r is) l.invariant.1 takes) q c.in-Some.ensures e puts)
 
-pub records-preserved : goal.records-preserved
-records-preserved c =
+pub records-preserved-in_ok-put_question : goal.records-preserved-in_ok-put_question
+records-preserved-in_ok-put_question c =
     let l = c.records in
     let r = plain c.in-Ok-Some.item in
     let is = c.step.new.self in
