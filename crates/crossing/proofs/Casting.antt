@@ -1,7 +1,7 @@
 -- The shadows of entries, one after another.
 use Rattle.std.proofs.Common.{◌≡◌, ℕ, suc, ◌+◌, ◌<◌, ◌≤◌, max, List, [], ◌∷◌, ◌++◌, length, get_or, take, set, ℤ, pos, negsuc, ◌+ℤ◌, ◌*ℤ◌, ◌≤ℤ◌, sym, ap, ◌∙◌, subst, ap₂, add-zero, arith}
 use Rattle.std.specs.List.{AllByRecursion}
-use Rattle.std.proofs.lemmas.List.{take_more, take-set-le, get_or-set_same, length-map, length-take-le, map-append, length-set}
+use Rattle.std.proofs.lemmas.List.{take_more, take_more_set, length-map, length-take-le, map-append}
 use Rattle.std.proofs.ByRecursion.{All-get_or, All-push}
 use Rattle.std.proofs.lemmas.Int.{ints}
 use Rattle.measure.specs.Algebra.{Row}
@@ -19,7 +19,7 @@ use Rattle.crossing.proofs.Shadows.{raise}
 small_bounded : (z : ℤ) → Small z → Bounded z
 small_bounded z s = record { least = omega (arith, ints, s.least); most = omega (arith, ints, s.most) }
 
-pub each_bounded : (a : Amounts) → Each Small a → Each Bounded a
+each_bounded : (a : Amounts) → Each Small a → Each Bounded a
 each_bounded a s = record {
   first = small_bounded a.first s.first;
   second = small_bounded a.second s.second;
@@ -47,9 +47,8 @@ largest a b c d e p q r s t = omega arith
 -- a shadow has a span of 1 at most
 rank_small : (v : Rank) (falls a : Amounts) (r : ℕ) → Each Fallen falls → Each Bounded a → r ≤ 7260 → rank_row v ≡ shadow (row_of falls) r (row_of a) → rank_span v ≤ 1
 rank_small v falls a r f b l e =
-    let first : v.first.value ≡ pos r = ap (cell 0) e in
     largest (span_of v.first.value) (span_of v.second.first.value) (span_of v.second.second.first.value) (span_of v.second.second.second.first.value) (span_of v.second.second.second.second.value)
-    (subst (λ q. span_of q ≤ 1) (sym first) (one_span (pos r) (omega (arith, ints)) (omega (arith, ints))))
+    (subst (λ q. span_of q ≤ 1) (sym (ap (cell 0) e)) (one_span (pos r) (omega (arith, ints)) (omega (arith, ints))))
     (span_column v.second.first.value a.first falls.first r b.first f.first l (ap (cell 1) e))
     (span_column v.second.second.first.value a.second falls.second r b.second f.second l (ap (cell 2) e))
     (span_column v.second.second.second.first.value a.third falls.third r b.third f.third l (ap (cell 3) e))
@@ -70,8 +69,7 @@ pub casts_more : (falls : Amounts) (xs : List Entry) (ys : List (Shadow Rank)) (
 casts_more falls xs ys i one e ranged fallen here few room at row was =
     let α : Row = row_of falls in
     let b = bounded_at xs i one ranged here at in
-    let ys_more : take (i + 1) (set ys i e) ≡ take i ys ++ (e ∷ []) =
-    take_more (set ys i e) i e (omega (arith, length-set ys i e)) ∙ ap₂ (λ l x. l ++ (x ∷ [])) (take-set-le i ys i e (omega arith)) (get_or-set_same ys i e e room) in
+    let ys_more = take_more_set ys i e room in
     let xs_more : take (i + 1) xs ≡ take i xs ++ (one ∷ []) = take_more xs i one here ∙ ap (λ o. take i xs ++ (o ∷ [])) (sym at) in
     let many : length (rows_of (take i xs)) ≡ i = length-map (take i xs) (λ o. row_of o.value) ∙ length-take-le i xs (omega arith) in
     let place : 1 + length (rows_of (take i xs)) ≡ i + 1 = omega arith in
