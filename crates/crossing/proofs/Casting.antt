@@ -1,7 +1,7 @@
 -- The shadows of entries, one after another.
-use Rattle.std.proofs.Common.{◌≡◌, ℕ, suc, ◌+◌, ◌<◌, ◌≤◌, max, List, [], ◌∷◌, ◌++◌, length, get_or, take, set, ℤ, pos, negsuc, ◌+ℤ◌, ◌*ℤ◌, ◌≤ℤ◌, sym, ap, ◌∙◌, subst, ap₂, add-zero, arith}
+use Rattle.std.proofs.Common.{◌≡◌, ℕ, suc, ◌+◌, ◌<◌, ◌≤◌, List, [], ◌∷◌, ◌++◌, length, get_or, take, set, ℤ, pos, negsuc, ◌+ℤ◌, ◌*ℤ◌, ◌≤ℤ◌, sym, ap, ◌∙◌, subst, ap₂, add-zero, arith}
 use Rattle.std.specs.List.{AllByRecursion}
-use Rattle.std.proofs.lemmas.List.{take_more, take-set-le, get_or-set_same, length-map, length-take-le, map-append, length-set}
+use Rattle.std.proofs.lemmas.List.{take_more, take_more_set, length-map, length-take-le, map-append}
 use Rattle.std.proofs.ByRecursion.{All-get_or, All-push}
 use Rattle.std.proofs.lemmas.Int.{ints}
 use Rattle.measure.specs.Algebra.{Row}
@@ -19,7 +19,7 @@ use Rattle.crossing.proofs.Shadows.{raise}
 small_bounded : (z : ℤ) → Small z → Bounded z
 small_bounded z s = record { least = omega (arith, ints, s.least); most = omega (arith, ints, s.most) }
 
-pub each_bounded : (a : Amounts) → Each Small a → Each Bounded a
+each_bounded : (a : Amounts) → Each Small a → Each Bounded a
 each_bounded a s = record {
   first = small_bounded a.first s.first;
   second = small_bounded a.second s.second;
@@ -31,29 +31,34 @@ one_span : (z : ℤ) → negsuc 1999999999999999 ≤ℤ z → z ≤ℤ pos 20000
 one_span (pos n) a b = let l : n ≤ 2000000000000000 = omega (arith, ints, b) in omega arith
 one_span (negsuc n) a b = let l : n ≤ 1999999999999999 = omega (arith, ints, a) in omega arith
 
-span_column : (z amount fall : ℤ) (r : ℕ) → Bounded amount → Fallen fall → r ≤ 7260 → z ≡ amount +ℤ fall *ℤ pos r → span_of z ≤ 1
-span_column z amount fall r b f l e =
+span_column : (amount fall : ℤ) (r : ℕ) → Bounded amount → Fallen fall → r ≤ 7260 → span_of (amount +ℤ fall *ℤ pos r) ≤ 1
+span_column amount fall r b f l =
     let up = raise fall r f l in
-    let least : negsuc 1999999999999999 ≤ℤ (amount +ℤ fall *ℤ pos r) = omega (arith, ints, up.least, b.least) in
-    let most : (amount +ℤ fall *ℤ pos r) ≤ℤ pos 2000000000000000 = omega (arith, ints, up.most, b.most) in
-    subst (λ q. span_of q ≤ 1) (sym e) (one_span (amount +ℤ fall *ℤ pos r) least most)
+    one_span (amount +ℤ fall *ℤ pos r) (omega (arith, ints, up.least, b.least)) (omega (arith, ints, up.most, b.most))
 
-pub span_bounded : (z : ℤ) → Bounded z → span_of z ≤ 1
+span_bounded : (z : ℤ) → Bounded z → span_of z ≤ 1
 span_bounded z b = one_span z (omega (arith, ints, b.least)) (omega (arith, ints, b.most))
 
-pub largest : (a b c d e : ℕ) → a ≤ 1 → b ≤ 1 → c ≤ 1 → d ≤ 1 → e ≤ 1 → max a (max b (max c (max d e))) ≤ 1
-largest a b c d e p q r s t = omega arith
+spans : (v : Rank) (a b c d e : ℤ) → rank_row v ≡ (a ∷ b ∷ c ∷ d ∷ e ∷ []) → span_of a ≤ 1 → span_of b ≤ 1 → span_of c ≤ 1 → span_of d ≤ 1 → span_of e ≤ 1 → rank_span v ≤ 1
+spans v a b c d e row p q r s t =
+    let at : (n : ℕ) → span_of (cell n (a ∷ b ∷ c ∷ d ∷ e ∷ [])) ≤ 1 → span_of (cell n (rank_row v)) ≤ 1 = λ n. subst (λ x. span_of (cell n x) ≤ 1) (sym row) in
+    let first : span_of v.first.value ≤ 1 = at 0 p in
+    let second : span_of v.second.first.value ≤ 1 = at 1 q in
+    let third : span_of v.second.second.first.value ≤ 1 = at 2 r in
+    let fourth : span_of v.second.second.second.first.value ≤ 1 = at 3 s in
+    let fifth : span_of v.second.second.second.second.value ≤ 1 = at 4 t in
+    omega arith
 
--- a shadow has a span of 1 at most
+-- an end with rank 0 has a span of 1 at most
+pub end-small : (v : Rank) (a : Amounts) → Each Bounded a → rank_row v ≡ pos 0 ∷ row_of a → rank_span v ≤ 1
+end-small v a b e =
+    spans v (pos 0) a.first a.second a.third a.fourth e (omega arith) (span_bounded a.first b.first) (span_bounded a.second b.second) (span_bounded a.third b.third) (span_bounded a.fourth b.fourth)
+
+-- and so has a shadow
 rank_small : (v : Rank) (falls a : Amounts) (r : ℕ) → Each Fallen falls → Each Bounded a → r ≤ 7260 → rank_row v ≡ shadow (row_of falls) r (row_of a) → rank_span v ≤ 1
 rank_small v falls a r f b l e =
-    let first : v.first.value ≡ pos r = ap (cell 0) e in
-    largest (span_of v.first.value) (span_of v.second.first.value) (span_of v.second.second.first.value) (span_of v.second.second.second.first.value) (span_of v.second.second.second.second.value)
-    (subst (λ q. span_of q ≤ 1) (sym first) (one_span (pos r) (omega (arith, ints)) (omega (arith, ints))))
-    (span_column v.second.first.value a.first falls.first r b.first f.first l (ap (cell 1) e))
-    (span_column v.second.second.first.value a.second falls.second r b.second f.second l (ap (cell 2) e))
-    (span_column v.second.second.second.first.value a.third falls.third r b.third f.third l (ap (cell 3) e))
-    (span_column v.second.second.second.second.value a.fourth falls.fourth r b.fourth f.fourth l (ap (cell 4) e))
+    spans v _ _ _ _ _ e (one_span (pos r) (omega (arith, ints)) (omega (arith, ints))) (span_column a.first falls.first r b.first f.first l) (span_column a.second falls.second r b.second f.second l)
+    (span_column a.third falls.third r b.third f.third l) (span_column a.fourth falls.fourth r b.fourth f.fourth l)
 
 shadows_more : (α : Row) (p : ℕ) (xs : List Row) (x : Row) → shadows α p (xs ++ (x ∷ [])) ≡ shadows α p xs ++ (shadow α (p + length xs) x ∷ [])
 shadows_more α p [] x = ap (λ k. shadow α k x ∷ []) (sym (add-zero p))
@@ -70,8 +75,7 @@ pub casts_more : (falls : Amounts) (xs : List Entry) (ys : List (Shadow Rank)) (
 casts_more falls xs ys i one e ranged fallen here few room at row was =
     let α : Row = row_of falls in
     let b = bounded_at xs i one ranged here at in
-    let ys_more : take (i + 1) (set ys i e) ≡ take i ys ++ (e ∷ []) =
-    take_more (set ys i e) i e (omega (arith, length-set ys i e)) ∙ ap₂ (λ l x. l ++ (x ∷ [])) (take-set-le i ys i e (omega arith)) (get_or-set_same ys i e e room) in
+    let ys_more = take_more_set ys i e room in
     let xs_more : take (i + 1) xs ≡ take i xs ++ (one ∷ []) = take_more xs i one here ∙ ap (λ o. take i xs ++ (o ∷ [])) (sym at) in
     let many : length (rows_of (take i xs)) ≡ i = length-map (take i xs) (λ o. row_of o.value) ∙ length-take-le i xs (omega arith) in
     let place : 1 + length (rows_of (take i xs)) ≡ i + 1 = omega arith in

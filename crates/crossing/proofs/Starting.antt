@@ -1,15 +1,13 @@
 -- The straight search over shadows, and what the crossed search of an accepted question has to come.
-use Rattle.std.proofs.Common.{◌≡◌, ℕ, suc, ◌+◌, ◌-◌, ◌≤◌, true, ◌&&◌, ltb, leb, List, ◌∷◌, ◌++◌, length, get_or, drop, ℤ, pos, Ok, sym, ap, ◌∙◌, subst, ap₂, arith}
+use Rattle.std.proofs.Common.{◌≡◌, ℕ, suc, ◌+◌, ◌-◌, ◌≤◌, true, ◌&&◌, ltb, leb, List, ◌∷◌, ◌++◌, length, get_or, drop, pos, Ok, sym, ap, ◌∙◌, subst, ap₂, arith}
 use mathlib.Core.Path.{fun_ext}
 use lib.Signed.{le_z}
 use Rattle.std.specs.List.{range_with_len, flat_map}
 use Rattle.std.proofs.lemmas.List.{length-map}
 use Rattle.std.proofs.lemmas.Bool.{and_from, le-leb, lt-ltb, cond-true}
 use Rattle.measure.specs.Algebra.{Row}
-use Rattle.measure.specs.Cents.{span_of}
 use Rattle.measure.specs.declared.Band.{Band}
 use Rattle.sets.specs.Trace.{Trace, trace}
-use Rattle.sets.specs.Crossings.{cell}
 use Rattle.sets.proofs.Amounts.{le_test}
 use Rattle.sets.specs.Crossed.{amounts, falls, shadow, shadows, least_total, greatest_total, rank_totals, crossed}
 use Rattle.squeezing.specs.Table.{offset, entries, fits}
@@ -27,27 +25,16 @@ use Rattle.question.specs.Beginning.{Begins, BeginsBy, Starts as StartsStraight}
 use Rattle.crossed.specs.declared.asked.Question.{Question}
 use Rattle.crossed.specs.declared.entries.Amounts.{Amounts}
 use Rattle.crossed.specs.Entries.{Entry, row_of}
-use Rattle.crossing.specs.Ranks.{Rank, ranks, rank_row, rank_span, rows_of, Bounded, Each, Falls}
+use Rattle.crossing.specs.Ranks.{Rank, ranks, rank_row, rank_span, rows_of, Falls}
 use Rattle.crossing.specs.Meaning.{rank_items, later}
 use Rattle.crossing.specs.Beginning.{Banded, Fits, Casts, Leads, Shadowed}
 use Rattle.crossing.specs.declared.course.Course.{Course}
-use Rattle.crossing.proofs.Casting.{span_bounded, largest}
+use Rattle.crossing.proofs.Casting.{end-small}
 use Rattle.crossing.proofs.Totals.{least-greatest}
 
 -- the question to the straight search
 abbrev paid : Question → Rank → Rank → Asked Rank
 paid q low high = record { side = Paid; size = q.size; band = record { low = low; high = high } }
-
--- an end with rank 0 has a span of 1 at most
-end-small : (v : Rank) (a : Amounts) → Each Bounded a → rank_row v ≡ pos 0 ∷ row_of a → rank_span v ≤ 1
-end-small v a b e =
-    let at : (z w : ℤ) → z ≡ w → span_of w ≤ 1 → span_of z ≤ 1 = λ z w q h. subst (λ x. span_of x ≤ 1) (sym q) h in
-    largest (span_of v.first.value) (span_of v.second.first.value) (span_of v.second.second.first.value) (span_of v.second.second.second.first.value) (span_of v.second.second.second.second.value)
-    (at v.first.value (pos 0) (ap (cell 0) e) (omega arith))
-    (at v.second.first.value a.first (ap (cell 1) e) (span_bounded a.first b.first))
-    (at v.second.second.first.value a.second (ap (cell 2) e) (span_bounded a.second b.second))
-    (at v.second.second.second.first.value a.third (ap (cell 3) e) (span_bounded a.third b.third))
-    (at v.second.second.second.second.value a.fourth (ap (cell 4) e) (span_bounded a.fourth b.fourth))
 
 band_accepted : (low high : Rank) (asked : Band Amounts) → Banded asked → rank_row low ≡ pos 0 ∷ row_of asked.low → rank_row high ≡ pos 0 ∷ row_of asked.high → band_fits ranks rank_row rank_span (record { low = low; high = high }) ≡ true
 band_accepted low high asked b e f =

@@ -32,7 +32,7 @@ fn bands_fit(columns: Columns, band: Band<Amounts>) -> bool
     let low = band.low.row();
     let high = band.high.row();
     low.iter()
-        .zip(high.iter())
+        .zip(&high)
         .take(usize::from(columns.count()))
         .all(|(l, h)| band_fits(*l, *h))
 }

@@ -83,6 +83,7 @@ fn over_shadows<'t>(
 }
 
 // The search of an accepted question: writes its table and begins at the least rank total.
+#[tactic(auto, using(crate::proofs::Accepting::ranged))]
 fn begin_accepted<'t>(roll: &Roll, asked: Question, table: &'t mut [Ranked]) -> Search<'t>
     requires { Fits (length (standing roll.now)) asked (length table.old) }
     ensures { Starts (standing roll.now) asked table.old result }

@@ -47,7 +47,7 @@ fn in_each<F: Fn(i64, i64) -> i64>(a: Amounts, b: Amounts, make: F) -> Amounts
 fn greater(a: Amounts, b: Amounts) -> Amounts
     ensures { row_of result ≡ part_by_part int_max (row_of a) (row_of b) }
 {
-    in_each(a, b, |x, y| x.max(y))
+    in_each(a, b, i64::max)
 }
 
 // By how much an amount falls to another.
@@ -65,7 +65,7 @@ fn fall(a: Amounts, b: Amounts) -> Amounts
     requires to { Each Small b }
     ensures { row_of result ≡ part_by_part ◌-ℤ◌ (row_of a) (row_of b) }
 {
-    in_each(a, b, |x, y| difference(x, y))
+    in_each(a, b, difference)
 }
 
 // The largest fall of each column from one place to the next, or 0.

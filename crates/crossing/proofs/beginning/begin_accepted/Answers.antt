@@ -1,19 +1,12 @@
-use Rattle.std.proofs.Common.{length, sym, subst}
+use Rattle.std.proofs.Common.{length, subst}
 use Rattle.sets.specs.Crossed.{falls}
 use Rattle.exploring.specs.Meaning.{coming}
 use Rattle.crossed.specs.Entries.{row_of}
 use Rattle.crossed.specs.Rolls.{standing}
-use Rattle.crossing.specs.Ranks.{Ranged, Falls, ranks, rank_row, rows_of}
+use Rattle.crossing.specs.Ranks.{Falls, ranks, rank_row, rows_of}
 use Rattle.crossing.specs.Beginning.{Leads, Shadowed}
-use Rattle.crossing.proofs.Accepting.{ranged}
 use Rattle.crossing.proofs.Starting.{shadowed_on, first_items, all_comes}
 use Rattle.crossing.proofs.beginning.begin_accepted.Goals as goal
-
-pub falls-falls-requires : goal.falls-falls-requires
-falls-falls-requires c = subst Ranged (sym c.entries-entries.ensures) (ranged c.args.roll.now)
-
-pub over_shadows-straight-requires-clause-ranged : goal.over_shadows-straight-requires-clause-ranged
-over_shadows-straight-requires-clause-ranged c = subst Ranged (sym c.entries-entries.ensures) (ranged c.args.roll.now)
 
 pub returns : goal.returns
 returns c =

@@ -1,12 +1,9 @@
-use Rattle.crossing.proofs.Shadows.{shadow_fits, shadow_is}
+use Rattle.std.proofs.Common.{rules, pos, ◌*ℤ◌}
+use Rattle.crossing.proofs.Shadows.{raise, Raise}
 use Rattle.crossing.proofs.ranks.shadowed.Goals as goal
 
 pub overflow_add-result : goal.overflow_add-result
-overflow_add-result c =
-    let r = c.requires in
-    shadow_fits c.args.fall c.args.amount c.from.result c.args.rank r.fallen r.bounded c.from.ensures r.few
+overflow_add-result c = let m : Raise (c.args.fall *ℤ pos c.args.rank) = raise c.args.fall c.args.rank c.requires.fallen c.requires.few in search rules
 
 pub returns : goal.returns
-returns c =
-    let r = c.requires in
-    shadow_is c.args.fall c.args.amount c.from.result c.args.rank r.fallen r.bounded c.from.ensures r.few
+returns c = let m : Raise (c.args.fall *ℤ pos c.args.rank) = raise c.args.fall c.args.rank c.requires.fallen c.requires.few in search rules
