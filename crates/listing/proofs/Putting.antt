@@ -22,15 +22,6 @@ before_ok l rest (Ok more) e = (more, refl, cc)
 before_ok l rest (Err f) e = cc
 
 module _ (t : ℕ) (w : Walk) (k : ℕ) (a b : Text) (text : List ℕ) (left : Left t w k a b text) where
-  -- no record is left, and none is at fault
-  pub left_over : (r : Result (Option Record) Fault) (is : Walk) → Steps t w r is → ((item : Record) → r ≡ Ok (Some item) → ⊥) → Puts a text (Some tt) b
-  left_over (Err f) is steps none = let e = sym left.2.1 ∙ steps k in cc
-  left_over (Ok (Some item)) is steps none = absurd (none item refl)
-  left_over (Ok None) is steps none =
-      let e = sym left.2.1 ∙ steps k in
-      let nothing : left.2.0 ≡ [] = cc in
-      subst (λ l. Puts a l (Some tt) b) (sym (append-nil left.0) ∙ ap (λ l. left.0 ++ l) (sym nothing) ∙ left.2.2) left.1
-
   module _ (r : Rec) (is : Walk) (takes : Takes t w r is) where
     behind : (more : List ℕ) × (lines_left t is (asked_so_far k r) ≡ Ok more) × (left.2.0 ≡ record_lines k (standing is.roll) r ++ more)
     behind = before_ok (record_lines k (standing is.roll) r) left.2.0 (lines_left t is (asked_so_far k r)) (sym (takes.lines k) ∙ left.2.1)

@@ -8,10 +8,6 @@ use Rattle.records.specs.Records.{known, size_of, record_of, same, parsed, locat
 pub next_at : (bs : List ℕ) (at : ℕ) → length bs ≤ 65536 → at < length bs → next_of bs at ≡ some (located at (parsed (eqb at 0) (get_or bs at 0) (drop (at + 1) bs)))
 next_at bs at h l = grind (arith, nat_tests)
 
--- a record of a known kind, where it may stand, with its body
-pub parsed_ok : (first : Bool) (k : ℕ) (bs : List ℕ) → known k ≡ true → size_of k ≤ length bs → same first (eqb k 1) ≡ true → parsed first k bs ≡ Ok (record_of k (take (size_of k) bs))
-parsed_ok first k bs is h q = grind (arith, nat_tests)
-
 -- how many bytes stand behind the kind byte
 pub rest_long : (bs : List ℕ) (at : ℕ) → length (drop (at + 1) bs) ≡ length bs - at - 1
 rest_long bs at = length-drop (at + 1) bs ∙ omega arith

@@ -24,10 +24,6 @@ filled_more z xs now i h so =
     ∙ sym (append_assoc (replicate i z) (z ∷ []) (drop (i + 1) xs))
     ∙ ap (λ l. l ++ drop (i + 1) xs) (replicate_more i z)
 
-pub filled_all : {X : Type 0} (z : X) (xs now : List X) (i : ℕ) → length xs ≤ i → i ≤ length xs → now ≡ replicate i z ++ drop i xs → now ≡ replicate (length xs) z
-filled_all z xs now i h l so =
-    so ∙ ap (λ r. replicate i z ++ r) (drop_all i xs h) ∙ append-nil (replicate i z) ∙ ap (λ n. replicate n z) (omega arith)
-
 -- what a rotation to the right leaves, where the first then becomes e
 pub room_made : {X : Type 0} (xs ys : List X) (i k : ℕ) (e : X) → i < length xs → k ≡ length xs - i → ys ≡ drop (length (mid_of i k xs) - 1) (mid_of i k xs) ++ take (length (mid_of i k xs) - 1) (mid_of i k xs) → set (put_mid i k xs ys) i e ≡ take (length xs) (insert xs i e)
 room_made xs ys i k e h w turned =

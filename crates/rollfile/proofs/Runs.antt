@@ -64,18 +64,6 @@ run_step d room bs xs at positive short =
 pub next_fits : (bs : List ℕ) (at : ℕ) (r : Rec) → 0 < at → length bs ≤ 65536 → next_of bs at ≡ Ok (Some r) → at + 1 + size_of (get_or bs at 0) ≤ length bs
 next_fits bs at r positive short q = grind (arith, nat_tests, rest_long)
 
--- a first record that is read has two bytes
-first_is : (bs : List ℕ) (o : Option Rec) → next_of bs 0 ≡ Ok o → (moved bs 0 (Ok o) ≡ 2) × (2 ≤ length bs) × (length bs ≤ 65536)
-first_is bs o q = grind (arith, nat_tests, rest_long)
-
--- behind the heading, where one was read
-pub first_behind : (bs : List ℕ) (is : Reader) (o : Option Rec) → next_of bs 0 ≡ Ok o → is.place ≡ moved bs 0 (Ok o) → is.bytes.now ≡ bs → Behind is × (is.place ≡ 2)
-first_behind bs is o q at file =
-    let f = first_is bs o q in
-    let n : length is.bytes.now ≡ length bs = ap length file in
-    let p : is.place ≡ 2 = at ∙ f.0 in
-    (record { short = omega (arith, f.2); positive = omega arith; inside = omega (arith, f.1) }, p)
-
 -- behind a record that is read the reader stands behind the first one
 pub behind_next : (reader : Reader) → Behind reader → (item : Record) (next : Reader) → ReadNext reader (Ok (Some item)) next → Behind next
 behind_next reader behind item next q =
