@@ -1,5 +1,5 @@
 -- What stands on a roll is what calls can lead to: its entries can be entered one after another.
-use Rattle.std.proofs.Common.{◌≡◌, ℕ, ◌+◌, ◌<◌, ◌≤◌, false, List, [], ◌∷◌, ◌++◌, length, sym, refl, subst, arith}
+use Rattle.std.proofs.Common.{◌≡◌, ◌+◌, ◌<◌, ◌≤◌, false, List, [], ◌∷◌, ◌++◌, length, sym, refl, subst, arith}
 use Rattle.std.specs.List.{All, AllByRecursion}
 use Rattle.std.proofs.lemmas.List.Elements.{All-weaker, All-push, recursion_from_All, All-from_recursion}
 use Rattle.std.proofs.lemmas.List.{length_push, append_assoc, append-nil}
@@ -7,7 +7,7 @@ use Rattle.std.proofs.lemmas.Bool.Decides.{nat_tests}
 use Rattle.crossed.specs.declared.entries.Columns.{Columns}
 use Rattle.crossed.specs.Entries.{Entry}
 use Rattle.crossed.specs.Books.{numbered, put, entered}
-use Rattle.crossed.specs.Reachable.{Reachable, by_open, by_enter, Rising, Admitted, WellFormed}
+use Rattle.crossed.specs.Reachable.{Reachable, by_open, by_enter, Rising, Admitted}
 use Rattle.crossed.specs.Rolls.{AlwaysReached, standing}
 use Rattle.crossed.proofs.Kept.{well_formed}
 

@@ -1,15 +1,13 @@
 -- The lines that are written so far, and those that are left, while the records of a file are gone through.
-use Rattle.std.proofs.Common.{◌≡◌, ℕ, suc, List, [], ◌++◌, Some, None, Ok, Err, Option, Result, sym, refl, ap, ◌∙◌, subst, append-nil}
+use Rattle.std.proofs.Common.{◌≡◌, ℕ, suc, List, ◌++◌, Some, None, Ok, Err, Result, sym, refl, ap, ◌∙◌}
 use Rattle.crossed.specs.declared.asked.Question.{Question}
 use Rattle.crossed.specs.Rolls.{standing}
-use Rattle.records.specs.declared.reader.Fault.{Fault}
-use Rattle.records.specs.declared.reader.Record.{Record}
 use Rattle.records.specs.Records.{Rec}
 use Rattle.listing.specs.declared.text.Text.{Text}
 use Rattle.listing.specs.declared.walk.Walk.{Walk}
 use Rattle.listing.specs.Text.{Puts}
 use Rattle.listing.specs.Listing.{question_in, question_lines, record_lines, asked_so_far, before}
-use Rattle.listing.specs.Walk.{lines_left, Takes, Steps}
+use Rattle.listing.specs.Walk.{lines_left, Takes}
 use Rattle.listing.proofs.Written.{puts_stop, puts_on}
 use Rattle.listing.proofs.Going.{question_asked}
 

@@ -1,8 +1,8 @@
 -- What the reader answers.
-use Rattle.std.proofs.Common.{◌≡◌, ◌∙◌, ℕ, ◌+◌, ◌-◌, ◌<◌, ◌≤◌, Bool, true, eqb, List, length, get_or, take, drop, Ok, arith}
+use Rattle.std.proofs.Common.{◌≡◌, ◌∙◌, ℕ, ◌+◌, ◌-◌, ◌<◌, ◌≤◌, eqb, List, length, get_or, drop, arith}
 use Rattle.std.proofs.lemmas.List.{length-drop}
 use Rattle.std.proofs.lemmas.Bool.Decides.{nat_tests}
-use Rattle.records.specs.Records.{known, size_of, record_of, same, parsed, located, some, next_of}
+use Rattle.records.specs.Records.{parsed, located, some, next_of}
 
 -- within a file the answer is the record at the place
 pub next_at : (bs : List ℕ) (at : ℕ) → length bs ≤ 65536 → at < length bs → next_of bs at ≡ some (located at (parsed (eqb at 0) (get_or bs at 0) (drop (at + 1) bs)))

@@ -9,7 +9,7 @@ use Rattle.records.specs.declared.reader.Fault.{Fault}
 use Rattle.roll.specs.declared.refusal.Refusal.{Refusal}
 use Rattle.records.specs.declared.reader.Reader.{Reader}
 use Rattle.records.specs.declared.reader.Record.{Record}
-use Rattle.records.specs.Records.{Rec, plain, size_of, parsed, located, some, next_of, moved, told, Behind, ReadNext}
+use Rattle.records.specs.Records.{Rec, plain, size_of, parsed, located, some, next_of, told, Behind, ReadNext}
 use Rattle.crossed.specs.declared.rolls.Roll.{Roll}
 use Rattle.crossed.specs.Books.{if_ok}
 use Rattle.crossed.specs.Rolls.{standing, room_of}
