@@ -1,5 +1,5 @@
 -- The part of a pass that lowers: one position more, and all of them.
-use Rattle.std.proofs.Common.{◌≡◌, ℕ, zero, suc, ◌+◌, ◌-◌, ◌<◌, ◌≤◌, Bool, true, false, cond, not, ◌||◌, eqb, List, length, get_or, set, Some, None, sum, Option, refl, ap, ◌∙◌, subst, arith}
+use Rattle.std.proofs.Common.{◌≡◌, ℕ, zero, suc, ◌+◌, ◌-◌, ◌<◌, ◌≤◌, Bool, true, false, cond, not, ◌||◌, eqb, List, length, get_or, set, Some, None, sum, Option, sym, refl, ap, ◌∙◌, subst, arith}
 use lib.Seq.{drop-length}
 use Rattle.std.proofs.lemmas.List.{length-set, get_or-set_other, set-get_or}
 use Rattle.std.proofs.lemmas.List.Sums.{sum_by-set}
@@ -79,9 +79,10 @@ module _ (hi : List ℕ) (i v : ℕ) (within : i < length hi) where
       let other : v ≡ get_or hi i 0 → ⊥ = eqb-false v (get_or hi i 0) e in
       record { still = λ t. absurd (true≢false t); fell = omega (arith, sum-set, r.fell, other); down = down-set was h r.down }
 
-  pub fell-set : (moved : Bool) (was : List ℕ) → v ≤ get_or hi i 0 → Fell moved was hi → Fell (moved || not (eqb v (get_or hi i 0))) was (set hi i v)
-  fell-set true was h r = record { still = λ t. absurd (true≢false t); fell = omega (arith, sum-set, r.fell); down = down-set was h r.down }
-  fell-set false was h r = fell_go was (eqb v (get_or hi i 0)) refl h r
+  -- a place took v in the place of the old one
+  pub fell-set : (moved : Bool) (was : List ℕ) (new old : ℕ) → new ≡ v → old ≡ get_or hi i 0 → v ≤ get_or hi i 0 → Fell moved was hi → Fell (moved || not (eqb new old)) was (set hi i v)
+  fell-set true was new old e f h r = record { still = λ t. absurd (true≢false t); fell = omega (arith, sum-set, r.fell); down = down-set was h r.down }
+  fell-set false was new old e f h r = fell_go was (eqb new old) (ap (λ x. eqb x (get_or hi i 0)) (sym e) ∙ ap (eqb new) (sym f)) h r
 
 -- the places that held the position after, hold the one before it at the place before
 pub back_next : {M : Type 0} (a : Algebra) (row : M → Row) (span : M → ℕ) (t : Totals M) (lo hi : List ℕ) (i v e : ℕ) (x : M) → i < length hi → 1 ≤ v → 0 < i → Back a row span t lo i v e x → Back a row span t lo (i - 1) (get_or (set hi i v) (i - 1 + 1) 0 - 1) e x

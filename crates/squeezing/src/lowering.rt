@@ -1,5 +1,6 @@
-ghost use Rattle.std.specs.Prelude.{◌≡◌, ℕ, ◌+◌, ◌-◌, ◌<◌, ◌≤◌, length, take, Some, slice_index};
+ghost use Rattle.std.specs.Prelude.{◌≡◌, ℕ, ◌+◌, ◌-◌, ◌<◌, ◌≤◌, List, length, take, Some, slice_index};
 ghost use Rattle.sets.specs.Spaces.{lower as lowers};
+ghost use Rattle.squeezing.specs.declared.table.Totals.{Totals};
 ghost use Rattle.squeezing.specs.Standing.{Back as BackIs, Higher, HoldsIn, Prefixes, StandsIn, entries_in};
 
 use crate::fixed::Fixed;
@@ -25,6 +26,16 @@ pub struct Back<M> {
 }
 
 impl<M: Measure> Back<M> {
+    // No lower place, which is all that holds the last position: there are `end` of them.
+    pub(crate) fn none(end: usize) -> Back<M>
+        ensures { (t : Totals M) (lo : List ℕ) (v : ℕ) → length lo ≡ end → 0 < end → BackIs M.algebra M.Measure.row M.span t lo (end - 1) v result.end result.after }
+    {
+        Back {
+            end,
+            after: M::nothing(),
+        }
+    }
+
     // Goes on to the lower places that hold the position at index `i` from `v` down.
     fn advance(&mut self, lo: &Fixed<M>, i: usize, v: u16)
         requires so_far { BackIs M.algebra M.Measure.row M.span lo.now.totals.now lo.now.places.now i v self.old.end self.old.after }

@@ -1,5 +1,6 @@
-ghost use Rattle.std.specs.Prelude.{◌≡◌, ℕ, ◌+◌, ◌-◌, ◌<◌, ◌≤◌, length, drop, Some, slice_index};
+ghost use Rattle.std.specs.Prelude.{◌≡◌, ℕ, ◌+◌, ◌-◌, ◌<◌, ◌≤◌, List, length, drop, Some, slice_index};
 ghost use Rattle.sets.specs.Spaces.{raise as raises};
+ghost use Rattle.squeezing.specs.declared.table.Totals.{Totals};
 ghost use Rattle.squeezing.specs.Standing.{Front as FrontIs, HoldsIn, Lower, Suffixes, StandsIn, entries_in};
 
 use crate::fixed::Fixed;
@@ -25,6 +26,16 @@ pub struct Front<M> {
 }
 
 impl<M: Measure> Front<M> {
+    // No upper place, which is all that holds the first position.
+    pub(crate) fn none() -> Front<M>
+        ensures { (t : Totals M) (hi : List ℕ) (v : ℕ) → FrontIs M.algebra M.Measure.row M.span t hi 0 v result.start result.before }
+    {
+        Front {
+            start: 0,
+            before: M::nothing(),
+        }
+    }
+
     // Goes on to the upper places that hold the position at index `i` from `v` on.
     fn advance(&mut self, hi: &Fixed<M>, i: usize, v: u16)
         requires within { i < length hi.now.places.now }
