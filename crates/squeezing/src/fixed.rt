@@ -5,8 +5,8 @@ ghost use Rattle.squeezing.specs.Standing.{Rising, Roomy, StandsIn, Upto};
 use crate::table::Totals;
 use measure::Measure;
 
-// The places of a space that stay while others move, with the totals that they are looked up in: the upper places while
-// positions are raised, the lower ones while they are lowered.
+// The places of a space that stay while others move, with the table that their totals are looked up in: the upper places
+// while positions are raised, the lower ones while they are lowered.
 #[derive(Drop)]
 pub(crate) struct Fixed<'t, 'p, M> {
     pub(crate) totals: &'t Totals<'t, M>,

@@ -26,7 +26,7 @@ pub struct Back<M> {
 }
 
 impl<M: Measure> Back<M> {
-    // No lower place, which is all that holds the last position: there are `end` of them.
+    // What holds the last of `end` positions from below: no place.
     pub(crate) fn none(end: usize) -> Back<M>
         ensures { (t : Totals M) (lo : List ℕ) (v : ℕ) → length lo ≡ end → 0 < end → BackIs M.algebra M.Measure.row M.span t lo (end - 1) v result.end result.after }
     {
@@ -42,6 +42,7 @@ impl<M: Measure> Back<M> {
         ensures on { BackIs M.algebra M.Measure.row M.span lo.now.totals.now lo.now.places.now i v self.new.end self.new.after }
         ensures free { i + 1 < self.new.end → slice_index lo.now.places.now (self.new.end - 1) < v + (self.new.end - 1 - i) }
     {
+        // Kept: a `while` over a field, since the next position goes on from where this one leaves off.
         while self.end > i + 1
             && lo.places[self.end - 1] as usize >= v as usize + (self.end - 1 - i)
         {
@@ -55,7 +56,7 @@ impl<M: Measure> Back<M> {
 // `high`. That total has three parts: the lower places before `i`, whose total is `before`, a free stretch of neighbours that
 // begins with the place that is tried, and the lower places that hold the position. `back`, the last part, goes on from the
 // position after.
-// Kept: lowering mirrors raising and is no twin of it: sums grow at the other end, and each bound and order is turned round.
+// Kept: `lower_totals`, `Back` and `lower` mirror raising and are no twins of it: sums grow at the other end, bounds turn round.
 pub(crate) fn lower<M: Measure>(
     lo: &Fixed<M>,
     hi: &[u16],
@@ -73,10 +74,7 @@ pub(crate) fn lower<M: Measure>(
     ensures place { HoldsIn M.algebra M.Measure.row M.span lo.now.totals.now → result ≡ lowers M.algebra (entries_in M.Measure.row lo.now.totals.now) (M.Measure.row high) lo.now.places.now hi.now (i + 1) }
     ensures on { (v : ℕ) → result ≡ Some v → BackIs M.algebra M.Measure.row M.span lo.now.totals.now lo.now.places.now i v back.new.end back.new.after }
 {
-    let mut greatest = hi[i];
-    if i + 1 < hi.len() {
-        greatest = greatest.min(hi[i + 1] - 1);
-    }
+    let greatest = hi.get(i + 1).map_or(hi[i], |next| hi[i].min(*next - 1));
     'places: for v in (lo.places[i]..=greatest).rev() {
         back.advance(lo, i, v);
         let run = lo.totals.neighbours(v as usize, back.end - i);

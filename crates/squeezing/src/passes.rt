@@ -9,10 +9,10 @@ use crate::table::{Totals, total_at};
 use measure::{Band, Measure};
 use std::mem::replace;
 
-// Squeezes a space: passes that raise every position, from the first, and then lower every one, from the last, until one
-// moves nothing. None: some position has no place, and the space is empty; the passes then end at once, in the middle of one.
-// Kept: a labelled loop that is left from the loops within, by a rule of the project; these go over indices, since a position
-// looks at its neighbours and at the totals, and then is written.
+// Squeezes a space by passes: each raises every position, from the first, and then lowers every one, from the last, until a
+// pass moves nothing. None: some position has no place, and the space is empty; the passes end there.
+// Kept: a labelled loop that is left from the loops within, by a rule of the project.
+// Kept: loops over indices, since a position looks at its neighbours and at the totals, and then is written.
 pub(crate) fn squeeze<'t, M: Measure>(
     totals: &'t Totals<'t, M>,
     lo: &mut [u16],
