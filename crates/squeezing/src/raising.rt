@@ -72,9 +72,7 @@ pub(crate) fn raise<M: Measure>(
     ensures place { HoldsIn M.algebra M.Measure.row M.span hi.now.totals.now → result ≡ raises M.algebra (entries_in M.Measure.row hi.now.totals.now) (M.Measure.row low) lo.now hi.now.places.now (i + 1) }
     ensures on { (v : ℕ) → result ≡ Some v → FrontIs M.algebra M.Measure.row M.span hi.now.totals.now hi.now.places.now i v front.new.start front.new.before }
 {
-    let least = lo[..i]
-        .last()
-        .map_or(lo[i], |before| lo[i].max(*before + 1));
+    let least = lo[..i].last().map_or(lo[i], |last| lo[i].max(*last + 1));
     'places: for v in least..=hi.places[i] {
         front.advance(hi, i, v);
         let k = i - front.start;
