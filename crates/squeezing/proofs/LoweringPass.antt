@@ -1,6 +1,5 @@
 -- The part of a pass that lowers: one position more, and all of them.
-use Rattle.std.proofs.Common.{◌≡◌, ℕ, zero, suc, ◌+◌, ◌-◌, ◌<◌, ◌≤◌, Bool, true, false, cond, not, ◌||◌, eqb, List, length, get_or, set, Some, None, sum, Option, refl, ap, ◌∙◌, subst, arith}
-use lib.Seq.{drop-length}
+use Rattle.std.proofs.Common.{◌≡◌, ℕ, zero, suc, ◌+◌, ◌-◌, ◌<◌, ◌≤◌, Bool, true, false, cond, not, ◌||◌, eqb, List, length, get_or, set, Some, None, sum, Option, sym, refl, ap, ◌∙◌, subst, arith}
 use Rattle.std.proofs.lemmas.List.{length-set, get_or-set_other, set-get_or}
 use Rattle.std.proofs.lemmas.List.Sums.{sum_by-set}
 use Rattle.std.proofs.lemmas.Bool.{true≢false, eqb-true, eqb-false}
@@ -8,7 +7,6 @@ use Rattle.measure.specs.Algebra.{Algebra, Row}
 use Rattle.sets.specs.Spaces.{lower, lower_from}
 use Rattle.squeezing.specs.declared.table.Totals.{Totals}
 use Rattle.squeezing.specs.Standing.{Back, Higher, Above}
-use Rattle.squeezing.proofs.Sums.{stands_none}
 use Rattle.squeezing.proofs.RaisingPass.{set_here, set_each}
 
 -- the upper places from index i on are lowered: each at least its lower place, and rising
@@ -79,9 +77,10 @@ module _ (hi : List ℕ) (i v : ℕ) (within : i < length hi) where
       let other : v ≡ get_or hi i 0 → ⊥ = eqb-false v (get_or hi i 0) e in
       record { still = λ t. absurd (true≢false t); fell = omega (arith, sum-set, r.fell, other); down = down-set was h r.down }
 
-  pub fell-set : (moved : Bool) (was : List ℕ) → v ≤ get_or hi i 0 → Fell moved was hi → Fell (moved || not (eqb v (get_or hi i 0))) was (set hi i v)
-  fell-set true was h r = record { still = λ t. absurd (true≢false t); fell = omega (arith, sum-set, r.fell); down = down-set was h r.down }
-  fell-set false was h r = fell_go was (eqb v (get_or hi i 0)) refl h r
+  -- a place took v in the place of the old one
+  pub fell-set : (moved : Bool) (was : List ℕ) (new old : ℕ) → new ≡ v → old ≡ get_or hi i 0 → v ≤ get_or hi i 0 → Fell moved was hi → Fell (moved || not (eqb new old)) was (set hi i v)
+  fell-set true was new old e f h r = record { still = λ t. absurd (true≢false t); fell = omega (arith, sum-set, r.fell); down = down-set was h r.down }
+  fell-set false was new old e f h r = fell_go was (eqb new old) (ap (λ x. eqb x (get_or hi i 0)) (sym e) ∙ ap (eqb new) (sym f)) h r
 
 -- the places that held the position after, hold the one before it at the place before
 pub back_next : {M : Type 0} (a : Algebra) (row : M → Row) (span : M → ℕ) (t : Totals M) (lo hi : List ℕ) (i v e : ℕ) (x : M) → i < length hi → 1 ≤ v → 0 < i → Back a row span t lo i v e x → Back a row span t lo (i - 1) (get_or (set hi i v) (i - 1 + 1) 0 - 1) e x
@@ -89,15 +88,6 @@ back_next a row span t lo hi i v e x within some more b =
     let next : i - 1 + 1 ≡ i = omega arith in
     let here : get_or (set hi i v) (i - 1 + 1) 0 ≡ v = ap (λ q. get_or (set hi i v) q 0) next ∙ set_here hi i v within in
     record { past = omega (arith, b.past); upto = b.upto; stands = b.stands; held = λ j h k. omega (arith, b.held j h k, b.past, here) }
-
--- no place holds the last position
-pub back_none : {M : Type 0} (a : Algebra) (row : M → Row) (span : M → ℕ) (t : Totals M) (lo : List ℕ) (v : ℕ) (x : M) → 0 < length lo → (row x ≡ a.nothing) × (span x ≡ 0) → Back a row span t lo (length lo - 1) v (length lo) x
-back_none a row span t lo v x some none = record {
-  past = omega arith;
-  upto = omega arith;
-  stands = rw (drop-length lo) (stands_none a row span t.n t.m t.values.now x none);
-  held = λ j h k. absurd (omega arith);
-}
 
 -- all positions are lowered
 pub sunk_all : (a : Algebra) (xs : List Row) (high : Row) (H : Type 0) (n : ℕ) (lo was is : List ℕ) (i : ℕ) (moved : Bool) → i ≡ 0 → length is ≡ length lo → Higher n is → Lowered i lo is → Fell moved was is → (H → lower_from a xs high lo (length lo) was ≡ lower_from a xs high lo i is) → Sunk H n lo was is (lower_from a xs high lo (length lo) was) moved

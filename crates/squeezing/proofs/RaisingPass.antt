@@ -91,9 +91,10 @@ module _ (lo : List ℕ) (i v : ℕ) (within : i < length lo) where
         up = up-set was h r.up;
       }
 
-  pub rose-set : (moved : Bool) (was : List ℕ) → get_or lo i 0 ≤ v → Rose moved was lo → Rose (moved || not (eqb v (get_or lo i 0))) was (set lo i v)
-  rose-set true was h r = record { still = λ t. absurd (true≢false t); rose = omega (arith, sum-set, r.rose); up = up-set was h r.up }
-  rose-set false was h r = rose_go was (eqb v (get_or lo i 0)) refl h r
+  -- a place took v in the place of the old one
+  pub rose-set : (moved : Bool) (was : List ℕ) (new old : ℕ) → new ≡ v → old ≡ get_or lo i 0 → get_or lo i 0 ≤ v → Rose moved was lo → Rose (moved || not (eqb new old)) was (set lo i v)
+  rose-set true was new old e f h r = record { still = λ t. absurd (true≢false t); rose = omega (arith, sum-set, r.rose); up = up-set was h r.up }
+  rose-set false was new old e f h r = rose_go was (eqb new old) (ap (λ x. eqb x (get_or lo i 0)) (sym e) ∙ ap (eqb new) (sym f)) h r
 
 -- the places that held the position before, held this one at the place after
 pub front_next : {M : Type 0} (a : Algebra) (row : M → Row) (span : M → ℕ) (t : Totals M) (hi lo : List ℕ) (i v s : ℕ) (x : M) → i < length lo → Front a row span t hi i v s x → Front a row span t hi (i + 1) (get_or (set lo i v) (i + 1 - 1) 0 + 1) s x

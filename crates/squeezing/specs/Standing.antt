@@ -1,6 +1,6 @@
 -- What the parts of squeezing keep and tell. Lists of places are indexed from 0 here, as the arrays of the code are: the
 -- place of position j + 1 stands at index j.
-use Rattle.std.specs.Prelude.{◌≡◌, ℕ, ◌+◌, ◌-◌, ◌<◌, ◌≤◌, Bool, true, false, List, length, take, drop, Some, None, Option, slice_index, slice_index_or}
+use Rattle.std.specs.Prelude.{◌≡◌, ℕ, ◌+◌, ◌-◌, ◌<◌, ◌≤◌, List, length, take, drop, Some, None, Option, slice_index, slice_index_or}
 use Rattle.measure.specs.Algebra.{Algebra, Row}
 use Rattle.sets.specs.Spaces.{Space, space}
 use Rattle.squeezing.specs.Table.{Holds, Stands, entries}
@@ -69,9 +69,9 @@ pub record Fair (n : ℕ) (lo hi : List ℕ) : Type 0 where
   pub ordered : (j : ℕ) → j < length hi → slice_index lo j ≤ slice_index hi j
 
 -- what squeezing tells: the space that is left, or that none is
-abbrev pub Squeezes : Type 0 → ℕ → List ℕ → List ℕ → List ℕ → List ℕ → Option Space → Bool → Type 0
-Squeezes H n lo hi lo' hi' answer true = (H → answer ≡ Some (space lo' hi')) × Fair n lo' hi' × Above lo lo' × Above hi' hi
-Squeezes H n lo hi lo' hi' answer false = H → answer ≡ None
+abbrev pub Squeezes : Type 0 → ℕ → List ℕ → List ℕ → List ℕ → List ℕ → Option Space → Option (Unit {0}) → Type 0
+Squeezes H n lo hi lo' hi' answer (Some _) = (H → answer ≡ Some (space lo' hi')) × Fair n lo' hi' × Above lo lo' × Above hi' hi
+Squeezes H n lo hi lo' hi' answer None = H → answer ≡ None
 
 -- The same of the first m places of an array, one fact at a time, since a ghost field takes no record.
 

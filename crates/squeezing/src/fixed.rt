@@ -5,11 +5,11 @@ ghost use Rattle.squeezing.specs.Standing.{Rising, Roomy, StandsIn, Upto};
 use crate::table::Totals;
 use measure::Measure;
 
-// The places of a space that stay while others move, with the totals that they are looked up in: the upper places while
-// positions are raised, the lower ones while they are lowered.
+// The places of a space that stay while others move, with the table that their totals are looked up in: the upper places
+// while positions are raised, the lower ones while they are lowered.
 #[derive(Drop)]
-pub(crate) struct Fixed<'p, M> {
-    pub(crate) totals: &'p Totals<'p, M>,
+pub(crate) struct Fixed<'t, 'p, M> {
+    pub(crate) totals: &'t Totals<'t, M>,
     pub(crate) places: &'p [u16],
     ghost many: { length places.now ≡ totals.now.m },
     ghost roomy: { Roomy totals.now.m places.now },
@@ -17,7 +17,7 @@ pub(crate) struct Fixed<'p, M> {
     ghost upto: { Upto totals.now.m totals.now.n places.now },
 }
 
-impl<'p, M: Measure> Fixed<'p, M> {
+impl<'t, 'p, M: Measure> Fixed<'t, 'p, M> {
     // The total of the place at an index.
     pub(crate) fn total(&self, j: usize) -> M
         requires { j < length self.now.places.now }

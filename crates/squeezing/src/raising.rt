@@ -1,5 +1,6 @@
-ghost use Rattle.std.specs.Prelude.{◌≡◌, ℕ, ◌+◌, ◌-◌, ◌<◌, ◌≤◌, length, drop, Some, slice_index};
+ghost use Rattle.std.specs.Prelude.{◌≡◌, ℕ, ◌+◌, ◌-◌, ◌<◌, ◌≤◌, List, length, drop, Some, slice_index};
 ghost use Rattle.sets.specs.Spaces.{raise as raises};
+ghost use Rattle.squeezing.specs.declared.table.Totals.{Totals};
 ghost use Rattle.squeezing.specs.Standing.{Front as FrontIs, HoldsIn, Lower, Suffixes, StandsIn, entries_in};
 
 use crate::fixed::Fixed;
@@ -25,6 +26,16 @@ pub struct Front<M> {
 }
 
 impl<M: Measure> Front<M> {
+    // What holds the first position from above: no place.
+    pub(crate) fn none() -> Front<M>
+        ensures { (t : Totals M) (hi : List ℕ) (v : ℕ) → FrontIs M.algebra M.Measure.row M.span t hi 0 v result.start result.before }
+    {
+        Front {
+            start: 0,
+            before: M::nothing(),
+        }
+    }
+
     // Goes on to the upper places that hold the position at index `i` from `v` on.
     fn advance(&mut self, hi: &Fixed<M>, i: usize, v: u16)
         requires within { i < length hi.now.places.now }
@@ -32,6 +43,7 @@ impl<M: Measure> Front<M> {
         ensures on { FrontIs M.algebra M.Measure.row M.span hi.now.totals.now hi.now.places.now i v self.new.start self.new.before }
         ensures free { self.new.start < i → v < slice_index hi.now.places.now self.new.start + (i - self.new.start) }
     {
+        // Kept: a `while` over a field, since the next position goes on from where this one leaves off.
         while self.start < i && hi.places[self.start] as usize + (i - self.start) <= v as usize {
             self.before = self.before.plus(hi.total(self.start));
             self.start += 1;
@@ -60,10 +72,7 @@ pub(crate) fn raise<M: Measure>(
     ensures place { HoldsIn M.algebra M.Measure.row M.span hi.now.totals.now → result ≡ raises M.algebra (entries_in M.Measure.row hi.now.totals.now) (M.Measure.row low) lo.now hi.now.places.now (i + 1) }
     ensures on { (v : ℕ) → result ≡ Some v → FrontIs M.algebra M.Measure.row M.span hi.now.totals.now hi.now.places.now i v front.new.start front.new.before }
 {
-    let mut least = lo[i];
-    if i > 0 {
-        least = least.max(lo[i - 1] + 1);
-    }
+    let least = lo[..i].last().map_or(lo[i], |last| lo[i].max(*last + 1));
     'places: for v in least..=hi.places[i] {
         front.advance(hi, i, v);
         let k = i - front.start;

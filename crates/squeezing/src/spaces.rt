@@ -26,10 +26,6 @@ pub fn squeezed<M: Measure>(
     if room.len() <= m {
         return None;
     }
-    // Kept: `then_some` would make a frame also where no set is left, and such places need not be a space.
-    if squeeze(&totals, &mut lo[0..m], &mut hi[0..m], room, band) {
-        Some(Frame { n, m, lo, hi })
-    } else {
-        None
-    }
+    squeeze(&totals, &mut lo[0..m], &mut hi[0..m], room, band)?;
+    Some(Frame { n, m, lo, hi })
 }
