@@ -5,7 +5,7 @@ ghost use Rattle.squeezing.specs.Table.{Holds, offset};
 ghost use Rattle.question.specs.Asking.{asking};
 ghost use Rattle.question.specs.Filling.{values, Laid, Written, EndsAsAsked};
 
-use crate::asking::{Question, Side, searched_band, searched_size};
+use crate::asking::{Question, Side};
 use measure::{Band, Measure};
 use roll::entry::Entry;
 
@@ -79,7 +79,7 @@ pub(crate) fn write_table<M: Measure>(
     ensures written { Written M.algebra M.Measure.row M.span entries.now all asked table.old table.new }
     ensures paid { asked.side ≡ Side.Paid → EndsAsAsked M.Measure.row (length entries.now) asked table.new }
 {
-    let m = searched_size(asked.side, entries.len(), asked.size);
+    let m = asked.searched_size(entries.len());
     let at = fill(entries, m, table);
-    put_ends(table, at, searched_band(asked.side, all, asked.band));
+    put_ends(table, at, asked.searched_band(all));
 }
