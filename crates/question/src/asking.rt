@@ -53,8 +53,8 @@ pub fn size_fits(side: Side, n: usize, size: usize) -> bool
     ensures { result ≡ size_fits side n size }
 {
     match side {
-        Side::Paid => 0 < size && size <= n,
-        Side::Left => 0 < size && size < n,
+        Side::Paid => (1..=n).contains(&size),
+        Side::Left => (1..n).contains(&size),
     }
 }
 
@@ -66,6 +66,7 @@ fn band_fits<M: Measure>(band: Band<M>) -> bool
 }
 
 // Whether the table of a Search for m of n entries has room.
+// Kept: in 128 bits, since n has no bound here.
 fn table_fits(n: usize, m: usize, room: usize) -> bool
     requires { m ≤ n }
     ensures { result ≡ nat_le (table_size n m) room }

@@ -54,6 +54,7 @@ fn begin_refused<'t, M: Measure>(table: &'t mut [M]) -> Search<'t, M>
 
 // The search of a question to entries that come to `all`. After a refusal the table stays, and the search is finished, of
 // size 0.
+// Kept: four arguments, since a caller has them apart; a struct of them would be made and taken apart here alone.
 pub fn begin_over<'t, M: Measure>(
     entries: &[Entry<M>],
     all: M,
