@@ -46,16 +46,16 @@ mod entries {
 mod questions {
     use crate::entries::{amounts, cents, crossed, entry};
     use crossed::asked::Question as CrossedQuestion;
-    use crossed::entries::Columns;
     use crossed::entering::open as open_crossed;
+    use crossed::entries::Columns;
     use crossing::asking::check as check_crossed;
     use crossing::ranks::Ranked;
     use listing::listing::list;
     use measure::{Band, Cents, Measure};
     use question::asking::{Question, Side};
     use question::beginning::{begin, check};
-    use roll::refusal::Refusal;
     use roll::entering::open;
+    use roll::refusal::Refusal;
 
     // A question to a straight roll.
     fn asked(side: Side, size: usize, low: i64, high: i64) -> Question<Cents> {
@@ -181,8 +181,8 @@ mod questions {
 #[cfg(test)]
 mod straight_rolls {
     use crate::entries::{entry, pair};
-    use roll::refusal::Refusal;
     use roll::entering::open;
+    use roll::refusal::Refusal;
 
     #[test]
     fn cents_are_refused_at_the_edge(rt: HostRuntime) {
@@ -219,8 +219,8 @@ mod straight_rolls {
 #[cfg(test)]
 mod crossed_rolls {
     use crate::entries::crossed;
-    use crossed::entries::Columns;
     use crossed::entering::open;
+    use crossed::entries::Columns;
     use roll::refusal::Refusal;
 
     #[test]
@@ -245,8 +245,8 @@ mod crossed_rolls {
 #[cfg(test)]
 mod files {
     use crate::entries::crossed;
-    use crossed::entries::Columns;
     use crossed::entering::open;
+    use crossed::entries::Columns;
     use records::reader::{Fault, Layer};
     use roll::refusal::Refusal;
     use rollfile::reading::{check_file, read_roll};
