@@ -102,7 +102,7 @@ fn accepted<M: Measure + From<Row>>(
 }
 
 // The run of a question to a roll of amounts.
-// Kept: a function for each measure, since one for any measure does not know that its search fits in memory.
+// Kept: a function for each measure, since one for any fails at `begin`, whose search is not known to fit in memory.
 pub fn ask_amounts(book: &[Line], asked: Asked, drive: Drive) -> Result<Run, Failure> {
     let mut cells = [Line::default().into(); 8];
     let mut table = [Cents::nothing(); 38];
