@@ -5,6 +5,7 @@ use crate::driving::{Drive, Failure, Run, expect};
 use crate::rolls::{ask_amounts, ask_pairs};
 use crate::walking::*;
 use crossed::entries::Columns;
+use measure::Band;
 use question::asking::Side;
 use std::alloc::{AllocError, Global};
 
@@ -41,7 +42,7 @@ impl Compared {
 // A random row. Those of a straight roll rise with their height, so that each can be compared with each.
 fn draw_row(dice: &mut Dice, what: Compared, flat: [u32; 4]) -> Row {
     let height = dice.below(18);
-    let mut row = Row::nothing();
+    let mut row = Row::default();
     for (amount, flat) in row.columns.iter_mut().zip(&flat).take(what.width()) {
         *amount = if what.is_crossed() {
             dice.amount(-4, 12)
@@ -124,8 +125,7 @@ fn draw_asked(dice: &mut Dice, lines: &[Line], what: Compared) -> Asked {
     Asked {
         side: Side::Paid,
         size: set.size(),
-        low,
-        high,
+        band: Band { low, high },
     }
 }
 

@@ -1,6 +1,6 @@
 // The crossed rolls that are asked.
 use crate::driving::{Drive, Failure, Run};
-use crate::rolls::{Roll, band_of, entry_of, fill};
+use crate::rolls::{Roll, fill};
 use crate::walking::{Asked, Line, Row};
 use crossed::asked::Question;
 use crossed::entering::open;
@@ -24,17 +24,18 @@ impl From<Row> for Amounts {
     }
 }
 
-// The question that is put to a crossed roll.
-fn question_of(asked: Asked) -> Question {
-    Question {
-        size: asked.size,
-        band: band_of(asked),
+impl From<Asked> for Question {
+    fn from(asked: Asked) -> Question {
+        Question {
+            size: asked.size,
+            band: asked.into(),
+        }
     }
 }
 
 impl<'a> Roll for rolls::Roll<'a> {
     fn enter_line(&mut self, line: Line) -> Result<(), Refusal> {
-        self.enter(entry_of(line.number, line.row))
+        self.enter(line.into())
     }
 
     fn strike_number(&mut self, number: u32) -> Result<(), Refusal> {
@@ -49,10 +50,10 @@ pub fn ask_crossed(
     asked: Asked,
     drive: Drive,
 ) -> Result<Run, Failure> {
-    let mut cells = [entry_of(0, Row::nothing()); 8];
+    let mut cells = [Line::default().into(); 8];
     let mut roll = open(&mut cells, columns);
     fill(&mut roll, book)?;
-    let question = question_of(asked);
+    let question = asked.into();
     let mut table = [Ranked::nothing(); 38];
     check(&roll, question, &table)?;
     let mut search = begin(&roll, question, &mut table);

@@ -55,7 +55,7 @@ fn set_on(page: &[u16], size: usize) -> Result<Places, Failure> {
     Ok(
         places
             .iter()
-            .fold(Places::none(), |set, place| set.with(*place)),
+            .fold(Places::default(), |set, place| set.with(*place)),
     )
 }
 

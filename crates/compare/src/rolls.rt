@@ -10,6 +10,7 @@ use roll::refusal::Refusal;
 use roll::straight;
 
 // A roll that lines can be entered on and struck from.
+// Kept: two impls with equal bodies, since straight and crossed rolls are two types, each with its own calls.
 pub trait Roll {
     // Enters the line.
     fn enter_line(&mut self, line: Line) -> Result<(), Refusal>;
@@ -49,34 +50,37 @@ impl From<Row> for Pair<Cents, Cents> {
     }
 }
 
-// The entry with a number and a row.
-pub fn entry_of<V: From<Row>>(number: u32, row: Row) -> Entry<V> {
-    Entry {
-        number,
-        value: V::from(row),
+impl<V: From<Row>> From<Line> for Entry<V> {
+    fn from(line: Line) -> Entry<V> {
+        Entry {
+            number: line.number,
+            value: line.row.into(),
+        }
     }
 }
 
-// The band that is asked.
-pub fn band_of<V: From<Row>>(asked: Asked) -> Band<V> {
-    Band {
-        low: V::from(asked.low),
-        high: V::from(asked.high),
+impl<V: From<Row>> From<Asked> for Band<V> {
+    fn from(asked: Asked) -> Band<V> {
+        Band {
+            low: asked.band.low.into(),
+            high: asked.band.high.into(),
+        }
     }
 }
 
-// The question that is put to a straight roll.
-fn question_of<M: Measure + From<Row>>(asked: Asked) -> Question<M> {
-    Question {
-        side: asked.side,
-        size: asked.size,
-        band: band_of(asked),
+impl<M: From<Row>> From<Asked> for Question<M> {
+    fn from(asked: Asked) -> Question<M> {
+        Question {
+            side: asked.side,
+            size: asked.size,
+            band: asked.into(),
+        }
     }
 }
 
 impl<'a, M: Measure + From<Row>> Roll for straight::Roll<'a, M> {
     fn enter_line(&mut self, line: Line) -> Result<(), Refusal> {
-        self.enter(entry_of(line.number, line.row))
+        self.enter(line.into())
     }
 
     fn strike_number(&mut self, number: u32) -> Result<(), Refusal> {
@@ -92,14 +96,15 @@ fn accepted<M: Measure + From<Row>>(
     table: &[M],
 ) -> Result<Question<M>, Refusal> {
     fill(roll, book)?;
-    check(roll, question_of(asked), table)?;
-    Ok(question_of(asked))
+    let question = asked.into();
+    check(roll, question, table)?;
+    Ok(question)
 }
 
 // The run of a question to a roll of amounts.
-// Kept: a function for each measure, since one for any measure does not know that its search fits in memory.
+// Kept: a function for each measure, since one for any fails at `begin`, whose search is not known to fit in memory.
 pub fn ask_amounts(book: &[Line], asked: Asked, drive: Drive) -> Result<Run, Failure> {
-    let mut cells = [entry_of(0, Row::nothing()); 8];
+    let mut cells = [Line::default().into(); 8];
     let mut table = [Cents::nothing(); 38];
     let mut roll = open(&mut cells);
     let question = accepted(&mut roll, book, asked, &table)?;
@@ -112,7 +117,7 @@ pub fn ask_amounts(book: &[Line], asked: Asked, drive: Drive) -> Result<Run, Fai
 
 // The run of a question to a roll of two amounts side by side.
 pub fn ask_pairs(book: &[Line], asked: Asked, drive: Drive) -> Result<Run, Failure> {
-    let mut cells = [entry_of(0, Row::nothing()); 8];
+    let mut cells = [Line::default().into(); 8];
     let mut table = [Pair::<Cents, Cents>::nothing(); 38];
     let mut roll = open(&mut cells);
     let question = accepted(&mut roll, book, asked, &table)?;

@@ -1,19 +1,15 @@
 // The walk over all sets of at most eight entries, each added up by itself.
+use measure::Band;
 use question::asking::Side;
 use std::alloc::{AllocError, Global};
 
 // Amounts in four columns; those that a roll does not have are zero.
-#[derive(Clone, Copy, PartialEq, Eq, PartialOrd, Ord)]
+#[derive(Clone, Copy, Default, PartialEq, Eq, PartialOrd, Ord)]
 pub struct Row {
     pub columns: [i64; 4],
 }
 
 impl Row {
-    // The row of zeros.
-    pub fn nothing() -> Row {
-        Row { columns: [0; 4] }
-    }
-
     // The sum of two rows.
     fn plus(mut self, other: Row) -> Row {
         for (sum, amount) in self.columns.iter_mut().zip(other.columns) {
@@ -33,7 +29,7 @@ impl Row {
 
 // An entry. Lines compare as their places do: on a straight roll the key is 0, and they follow their amounts, then their
 // numbers; on a crossed roll the key is the number.
-#[derive(Clone, Copy, PartialEq, Eq, PartialOrd, Ord)]
+#[derive(Clone, Copy, Default, PartialEq, Eq, PartialOrd, Ord)]
 pub struct Line {
     pub key: u32,
     pub row: Row,
@@ -41,35 +37,29 @@ pub struct Line {
     pub struck: bool,
 }
 
-// Asks for sets of so many entries, with a total from low to high in each column.
+// Asks for sets of so many entries, with a total in the band in each column.
 #[derive(Clone, Copy)]
 pub struct Asked {
     pub side: Side,
     pub size: usize,
-    pub low: Row,
-    pub high: Row,
+    pub band: Band<Row>,
 }
 
 impl Asked {
     // Whether a total lies in the band, in each column.
     fn admits(&self, total: Row) -> bool {
-        self.low.not_above(total) && total.not_above(self.high)
+        self.band.low.not_above(total) && total.not_above(self.band.high)
     }
 }
 
 // A set of places, as bits: place 1 has the bit 128, place 8 the bit 1. So of two sets of one size the greater number
 // comes first in place order, since it has the smaller place where they first differ.
-#[derive(Clone, Copy, PartialEq, Eq)]
+#[derive(Clone, Copy, Default, PartialEq, Eq)]
 pub struct Places {
     pub bits: u32,
 }
 
 impl Places {
-    // The set of no place.
-    pub fn none() -> Places {
-        Places { bits: 0 }
-    }
-
     // The set of all places where so many entries stand.
     pub fn all(count: usize) -> Places {
         Places {
@@ -107,7 +97,7 @@ impl Places {
             .iter()
             .zip(1..)
             .filter(|(_, place)| self.contains(*place))
-            .fold(Row::nothing(), |sum, (line, _)| sum.plus(line.row))
+            .fold(Row::default(), |sum, (line, _)| sum.plus(line.row))
     }
 }
 

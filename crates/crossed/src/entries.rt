@@ -5,6 +5,7 @@ ghost use Rattle.crossed.specs.Entries.{within, in_range, past_zero, columns_of,
 use roll::refusal::Refusal;
 
 // One amount a column, in cents.
+// Kept: four fields and no array, so that definitions know how many there are.
 #[derive(Clone, Copy, PartialEq, Eq, Debug)]
 pub struct Amounts {
     pub first: i64,
@@ -72,7 +73,7 @@ impl Amounts {
 fn is_within(z: i64) -> bool
     ensures { result ≡ within z }
 {
-    -100_000_000_000 <= z && z <= 100_000_000_000
+    (-100_000_000_000..=100_000_000_000).contains(&z)
 }
 
 // Whether the amounts in the columns are in range.

@@ -247,14 +247,18 @@ mod files {
     use crate::entries::crossed;
     use crossed::entering::open;
     use crossed::entries::Columns;
-    use records::reader::Fault;
+    use records::reader::{Fault, Layer};
     use roll::refusal::Refusal;
     use rollfile::reading::{check_file, read_roll};
     use rollfile::writing::write;
 
-    // The refusal of a fault, and its place.
-    fn parts(fault: Fault) -> (Refusal, usize) {
-        (fault.refusal, fault.place)
+    // A fault of its three parts.
+    fn fault(refusal: Refusal, place: usize, layer: Layer) -> Fault {
+        Fault {
+            refusal,
+            place,
+            layer,
+        }
     }
 
     #[test]
@@ -274,24 +278,24 @@ mod files {
     fn faults(rt: HostRuntime) {
         let mut cells = [crossed(8, 8, 0); 2];
         assert_eq!(rt;
-            check_file(&[], &mut cells).map_err(parts),
-            Err((Refusal::ShortRecord, 0))
+            check_file(&[], &mut cells),
+            Err(fault(Refusal::ShortRecord, 0, Layer::File))
         );
         assert_eq!(rt;
-            check_file(&[1, 5], &mut cells).map_err(parts),
-            Err((Refusal::BadColumns, 0))
+            check_file(&[1, 5], &mut cells),
+            Err(fault(Refusal::BadColumns, 0, Layer::Roll))
         );
         assert_eq!(rt;
-            check_file(&[1, 4, 9], &mut cells).map_err(parts),
-            Err((Refusal::UnknownKind, 2))
+            check_file(&[1, 4, 9], &mut cells),
+            Err(fault(Refusal::UnknownKind, 2, Layer::File))
         );
         assert_eq!(rt;
-            check_file(&[1, 4, 1, 2], &mut cells).map_err(parts),
-            Err((Refusal::Misplaced, 2))
+            check_file(&[1, 4, 1, 2], &mut cells),
+            Err(fault(Refusal::Misplaced, 2, Layer::File))
         );
         assert_eq!(rt;
-            check_file(&[1, 4, 3, 0, 0, 0, 1], &mut cells).map_err(parts),
-            Err((Refusal::NumberUnknown, 2))
+            check_file(&[1, 4, 3, 0, 0, 0, 1], &mut cells),
+            Err(fault(Refusal::NumberUnknown, 2, Layer::Roll))
         );
         assert_eq!(rt; cells[1].number, 0);
     }

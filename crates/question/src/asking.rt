@@ -22,13 +22,39 @@ pub struct Question<M> {
     pub band: Band<M>,
 }
 
+impl<M: Measure> Question<M> {
+    // How many places the sought sets have, where n entries stand.
+    pub(crate) fn searched_size(self, n: usize) -> usize
+        ensures { result ≡ sought self.side n self.size }
+    {
+        match self.side {
+            Side::Paid => self.size,
+            Side::Left => n.saturating_sub(self.size),
+        }
+    }
+
+    // The sought band, where all entries come to `all`: as it was asked, or what its ends leave of all.
+    pub(crate) fn searched_band(self, all: M) -> Band<M>
+        ensures low { Needed self.side (M.span all + M.span self.band.high ≤ 240) → M.Measure.row result.low ≡ end M.algebra self.side (M.Measure.row all) (M.Measure.row self.band.low) (M.Measure.row self.band.high) }
+        ensures high { Needed self.side (M.span all + M.span self.band.low ≤ 240) → M.Measure.row result.high ≡ end M.algebra self.side (M.Measure.row all) (M.Measure.row self.band.high) (M.Measure.row self.band.low) }
+    {
+        match self.side {
+            Side::Paid => self.band,
+            Side::Left => Band {
+                low: all.minus(self.band.high),
+                high: all.minus(self.band.low),
+            },
+        }
+    }
+}
+
 // Whether so many of n entries can be asked for.
 pub fn size_fits(side: Side, n: usize, size: usize) -> bool
     ensures { result ≡ size_fits side n size }
 {
     match side {
-        Side::Paid => 0 < size && size <= n,
-        Side::Left => 0 < size && size < n,
+        Side::Paid => (1..=n).contains(&size),
+        Side::Left => (1..n).contains(&size),
     }
 }
 
@@ -39,17 +65,8 @@ fn band_fits<M: Measure>(band: Band<M>) -> bool
     band.low.not_above(band.high) && band.low.admitted() && band.high.admitted()
 }
 
-// How many places the sought sets have.
-pub(crate) fn searched_size(side: Side, n: usize, size: usize) -> usize
-    ensures { result ≡ sought side n size }
-{
-    match side {
-        Side::Paid => size,
-        Side::Left => n.saturating_sub(size),
-    }
-}
-
 // Whether the table of a Search for m of n entries has room.
+// Kept: in 128 bits, since n has no bound here.
 fn table_fits(n: usize, m: usize, room: usize) -> bool
     requires { m ≤ n }
     ensures { result ≡ nat_le (table_size n m) room }
@@ -81,24 +98,10 @@ pub(crate) fn judge<M: Measure>(
     if !band_fits(asked.band) {
         return Err(Refusal::BadBand);
     }
-    if !table_fits(n, searched_size(asked.side, n, asked.size), room) {
+    if !table_fits(n, asked.searched_size(n), room) {
         return Err(Refusal::ShortTable);
     }
     Ok(())
-}
-
-// The sought band, where all entries come to `all`: as it was asked, or what its ends leave of all.
-pub(crate) fn searched_band<M: Measure>(side: Side, all: M, band: Band<M>) -> Band<M>
-    ensures low { Needed side (M.span all + M.span band.high ≤ 240) → M.Measure.row result.low ≡ end M.algebra side (M.Measure.row all) (M.Measure.row band.low) (M.Measure.row band.high) }
-    ensures high { Needed side (M.span all + M.span band.low ≤ 240) → M.Measure.row result.high ≡ end M.algebra side (M.Measure.row all) (M.Measure.row band.high) (M.Measure.row band.low) }
-{
-    match side {
-        Side::Paid => band,
-        Side::Left => Band {
-            low: all.minus(band.high),
-            high: all.minus(band.low),
-        },
-    }
 }
 
 // The examples worked by hand come out of the definitions as they should.

@@ -7,7 +7,7 @@ ghost use Rattle.question.specs.Asking.{asking};
 ghost use Rattle.question.specs.Filling.{EndsAsAsked};
 ghost use Rattle.question.specs.Beginning.{Starts, Stays, Begins, Answers};
 
-use crate::asking::{Question, Side, judge, searched_band, searched_size};
+use crate::asking::{Question, Side, judge};
 use crate::filling::write_table;
 use exploring::starting::over;
 use exploring::state::Search;
@@ -35,8 +35,8 @@ fn begin_accepted<'t, M: Measure>(
     ensures paid { asked.side ≡ Side.Paid → EndsAsAsked M.Measure.row (length entries.now) asked (table_of result) }
 {
     write_table(entries, all, asked, table);
-    let m = searched_size(asked.side, entries.len(), asked.size);
-    let band = searched_band(asked.side, all, asked.band);
+    let m = asked.searched_size(entries.len());
+    let band = asked.searched_band(all);
     over(table, entries.len(), m, band)
 }
 
@@ -54,6 +54,7 @@ fn begin_refused<'t, M: Measure>(table: &'t mut [M]) -> Search<'t, M>
 
 // The search of a question to entries that come to `all`. After a refusal the table stays, and the search is finished, of
 // size 0.
+// Kept: four arguments, since a caller has them apart; a struct of them would be made and taken apart here alone.
 pub fn begin_over<'t, M: Measure>(
     entries: &[Entry<M>],
     all: M,

@@ -5,11 +5,12 @@ ghost use Rattle.squeezing.specs.Table.{Holds, offset};
 ghost use Rattle.question.specs.Asking.{asking};
 ghost use Rattle.question.specs.Filling.{values, Laid, Written, EndsAsAsked};
 
-use crate::asking::{Question, Side, searched_band, searched_size};
+use crate::asking::{Question, Side};
 use measure::{Band, Measure};
 use roll::entry::Entry;
 
 // Writes the first column: the values of the entries.
+// Kept: writes by index, since after a loop over `iter_mut` in a chain a proof knows no element.
 fn first_column<M: Measure>(entries: &[Entry<M>], table: &mut [M])
     requires { length entries.now ≤ length table.old }
     ensures first { take (length entries.now) table.new ≡ values entries.now }
@@ -22,6 +23,7 @@ fn first_column<M: Measure>(entries: &[Entry<M>], table: &mut [M])
 
 // From the column of k neighbours, which starts at `start`, writes that of k + 1 neighbours right behind it, and tells where
 // that one starts.
+// Kept: writes by index, since after a loop over `iter_mut` in a chain a proof knows no element.
 fn next_column<M: Measure>(entries: &[Entry<M>], k: usize, start: usize, table: &mut [M]) -> usize
     requires some { 1 ≤ k }
     requires most { k < length entries.now }
@@ -41,6 +43,7 @@ fn next_column<M: Measure>(entries: &[Entry<M>], k: usize, start: usize, table: 
 }
 
 // Writes the first m columns, one after the other, and tells where they end.
+// Kept: a loop, since a fold over the columns would need a contract for its closure.
 fn fill<M: Measure>(entries: &[Entry<M>], m: usize, table: &mut [M]) -> usize
     requires some { 1 ≤ m }
     requires most { m ≤ length entries.now }
@@ -79,7 +82,7 @@ pub(crate) fn write_table<M: Measure>(
     ensures written { Written M.algebra M.Measure.row M.span entries.now all asked table.old table.new }
     ensures paid { asked.side ≡ Side.Paid → EndsAsAsked M.Measure.row (length entries.now) asked table.new }
 {
-    let m = searched_size(asked.side, entries.len(), asked.size);
+    let m = asked.searched_size(entries.len());
     let at = fill(entries, m, table);
-    put_ends(table, at, searched_band(asked.side, all, asked.band));
+    put_ends(table, at, asked.searched_band(all));
 }
