@@ -1,5 +1,7 @@
 -- A search that begins has the trace of its entries to come.
-use Rattle.std.proofs.Common.{◌≡◌, ℕ, zero, suc, ◌+◌, ◌-◌, ◌<◌, ◌≤◌, true, cond, ◌&&◌, ltb, leb, List, [], ◌++◌, length, get_or, take, sym, refl, ap, ◌∙◌, subst, ⊎_elim, append-nil, arith}
+use Rattle.std.proofs.lemmas.List.{get_or-set_same, get_or-set_other}
+use Rattle.std.proofs.lemmas.Bool.{cases_eq}
+use Rattle.std.proofs.Common.{set, ◌≡◌, ℕ, zero, suc, ◌+◌, ◌-◌, ◌<◌, ◌≤◌, true, cond, ◌&&◌, ltb, leb, List, [], ◌++◌, length, get_or, take, sym, refl, ap, ◌∙◌, subst, ⊎_elim, append-nil, arith}
 use Rattle.std.specs.List.{range_with_len}
 use Rattle.std.proofs.lemmas.List.FromFn.{get_or-range_with_len, length-range_with_len}
 use Rattle.std.proofs.lemmas.List.{ext_get_or, length-take-le, get_or-take, get_or_past}
@@ -100,3 +102,11 @@ module _ {M : Type 0} (a : Algebra) (row : M → Row) (table : List M) (low high
   pub first_again : (n m : ℕ) → m ≤ n → n ≤ 120 → offset n m ≤ length table → first_of (explore_of a row n table low high) n m ≡ planned a row n m table low high
   first_again n zero few small long = refl
   first_again n (suc m) few small long = first_fits n (suc m) (fitted n (suc m) (length table) (omega arith) few small long)
+
+-- one place more is written down
+pub written : (f : ℕ → ℕ) (xs : List ℕ) (j v : ℕ) → j < length xs → v ≡ f j → ((k : ℕ) → k < j → get_or xs k 0 ≡ f k) → (k : ℕ) → k < j + 1 → get_or (set xs j v) k 0 ≡ f k
+written f xs j v h e before k l =
+    ⊎_elim
+    (λ same. ap (λ q. get_or (set xs j v) q 0) same ∙ get_or-set_same xs j v 0 h ∙ e ∙ ap f (sym same))
+    (λ other. get_or-set_other xs j k v 0 other ∙ before k (omega arith))
+    (cases_eq k j)
