@@ -36,6 +36,7 @@ pub fn open<'a>(cells: &'a mut [Entry], columns: Columns) -> Roll<'a>
     }
 }
 
+// Kept: `len`, `entries`, `get` and `strike` stand here and at the straight roll, since a type of one's own lends no field's methods.
 impl<'a> Roll<'a> {
     // How many entries stand.
     pub fn len(&self) -> usize

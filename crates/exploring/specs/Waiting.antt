@@ -27,7 +27,7 @@ depth_of f = length f.levels.items
 abbrev pub to_come : (ℕ → Space → Trace) → Frontier → Trace
 to_come e f = cond f.fresh (e (f.root.m + 1) (space_of f.root)) [] ++ stacked (level_items e) f.root.m f.levels.items
 
--- the items of a Search for sets of m of n places that begins; none of size 0
+-- the items of a search for sets of m of n places that begins; none of size 0
 abbrev pub first_of : (ℕ → Space → Trace) → ℕ → ℕ → Trace
 first_of e n m = cond (nat_lt 0 m) (e (m + 1) (space (range_with_len 1 m) (range_with_len (n - m + 1) m))) []
 
@@ -43,7 +43,7 @@ explore_of a row n table low high = explore a (entries row n table) low high
 abbrev pub items_of : {M : Type 0} → Algebra → (M → Row) → List M → Row → Row → Frontier → Trace
 items_of a row table low high f = to_come (explore_of a row f.root.n table low high) f
 
--- the items that are left to a Search at work, over a table
+-- the items that are left to a search at work, over a table
 abbrev pub left_of : {M : Type 0} → Algebra → (M → Row) → List M → Work M → Trace
 left_of a row table w = items_of a row table (row w.band.low) (row w.band.high) w.frontier
 

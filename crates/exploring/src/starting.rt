@@ -13,7 +13,7 @@ use arrayvec::ArrayVec;
 use measure::{Band, Measure};
 use squeezing::table::fits;
 
-// The Search for sets of `m` of `n` places begins: its first space waits, unless the size is 0.
+// The search for sets of `m` of `n` places begins: its first space waits, unless the size is 0.
 fn plan(n: usize, m: usize) -> Frontier
     requires { (m ≤ n) × (n ≤ 120) }
     ensures same { (result.root.n ≡ n) × (result.root.m ≡ m) }
@@ -39,8 +39,8 @@ fn plan_over(n: usize, m: usize, cells: usize) -> Frontier
     }
 }
 
-// The Search for sets of `m` of `n` entries whose totals lie in the band, over a table of the totals of neighbours whose
-// first column holds the entries. Where the sizes do not fit the Search is finished, and of size 0.
+// The search for sets of `m` of `n` entries whose totals lie in the band, over a table of the totals of neighbours whose
+// first column holds the entries. Where the sizes do not fit the search is finished, and of size 0.
 pub fn over<'t, M: Measure>(table: &'t [M], n: usize, m: usize, band: Band<M>) -> Search<'t, M>
     ensures { Begun M.algebra M.Measure.row M.span n m table.now band.low band.high result }
 {
@@ -55,14 +55,14 @@ pub fn over<'t, M: Measure>(table: &'t [M], n: usize, m: usize, band: Band<M>) -
 }
 
 impl<'t, M: Measure> Search<'t, M> {
-    // How many places each set of the Search has.
+    // How many places each set of the search has.
     pub fn places(&self) -> usize
         ensures { result ≡ size_of self.now }
     {
         self.work.frontier.root.m
     }
 
-    // The same Search begins again from its first space, over another band.
+    // The same search begins again from its first space, over another band.
     pub fn restart(&mut self, band: Band<M>)
         ensures same { Same self.old self.new }
         ensures comes { coming M.algebra M.Measure.row self.new ≡ planned M.algebra M.Measure.row (count_of self.old) (size_of self.old) (table_of self.old) (M.Measure.row band.low) (M.Measure.row band.high) }

@@ -3,7 +3,7 @@ ghost use Rattle.squeezing.specs.Table.{offset};
 
 use crate::work::Work;
 
-// A Search over a table of the totals of neighbours, which stays as it is while the Search lives.
+// A search over a table of the totals of neighbours, which stays as it is while the search lives.
 #[derive(Drop)]
 pub struct Search<'t, M> {
     pub(crate) table: &'t [M],

@@ -1,7 +1,7 @@
 use crate::frontier::Frontier;
 use measure::Band;
 
-// What changes while a Search goes on: the spaces that wait, the sought band, and room for the totals of one pass.
+// What changes while a search goes on: the spaces that wait, the sought band, and room for the totals of one pass.
 #[derive(Drop)]
 pub struct Work<M> {
     pub frontier: Frontier,

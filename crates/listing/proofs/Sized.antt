@@ -34,7 +34,7 @@ coming_sized xs q some most =
     } in
     all_from_in (λ s. length s ≡ q.size) (somes (coming xs q)) (λ s i. (crossed_sound 3 (rows_of xs) (row_of q.band.low) (row_of q.band.high) q.size crosses s i).places.size)
 
--- those that its Search has to come
+-- those that its search has to come
 pub starts_sized : (xs : List Entry) (q : Question) (was : List Rank) (s : Search) → 1 ≤ q.size → q.size ≤ length xs → Starts xs q was s → AllByRecursion (λ ps. length ps ≡ size_of s.straight) (somes (to_come s))
 starts_sized xs q was s some most h =
     subst (λ t. AllByRecursion (λ ps. length ps ≡ size_of s.straight) (somes t)) (sym h.comes)

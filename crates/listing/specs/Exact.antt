@@ -1,5 +1,5 @@
--- What holds of all Searches, of their definitions. This is the part of the law over runs that stands so far: it speaks of
--- what Searches have to come, not yet of the calls that two offices made.
+-- What holds of all searches, of their definitions. This is the part of the law over runs that stands so far: it speaks of
+-- what searches have to come, not yet of the calls that two offices made.
 use Rattle.sets.specs.Statements.{TraceFinds, TraceCounts, Complements}
 use Rattle.sets.specs.Crossings.{CrossedFinds, CrossedSound, CrossedComplete, CrossedOrder, CrossedOnce, CrossedCounts}
 

@@ -20,7 +20,7 @@ use Rattle.records.specs.Records.{Rec, heading, entering, striking, question, si
 use Rattle.records.specs.declared.reader.Fault.{Fault}
 use Rattle.listing.specs.Text.{line}
 
--- what the Search of a question has to come where xs stand
+-- what the search of a question has to come where xs stand
 abbrev pub coming : List Entry → Question → Trace
 coming xs q = crossed 3 (map (λ e. row_of e.value) xs) (row_of q.band.low) (row_of q.band.high) q.size
 

@@ -4,6 +4,7 @@ ghost use Rattle.std.specs.Prelude.{◌≡◌, ◌≤◌, length};
 use itoa::Buffer;
 
 // An output, and the place behind what was written into it so far.
+// Kept: a place beside the bytes, since the output is lent and nothing here may allocate.
 #[derive(Drop)]
 pub(crate) struct Text<'o> {
     out: &'o mut [u8],

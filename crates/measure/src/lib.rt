@@ -8,6 +8,7 @@ ghost use Rattle.measure.specs.CentsLaws.{cents_laws};
 ghost use Rattle.measure.specs.JoinedLaws.{joined_laws, own-joined};
 
 // A kind of amount: what its values mean, and five functions that do exactly what the meaning says.
+// Kept: definitions take `algebra`, `row` and `span` one by one, since worked examples compute with them over plain rows.
 // The span of a value bounds its size: sums and differences are exact wherever two spans make at most 240.
 pub trait Measure: Copy {
     ghost algebra: { Algebra };

@@ -24,7 +24,7 @@ size_fits Left n l = nat_lt 0 l && nat_lt l n
 abbrev pub band_fits : {M : Type 0} → Algebra → (M → Row) → (M → ℕ) → Band M → Bool
 band_fits a row span b = a.not_above (row b.low) (row b.high) && (nat_le (span b.low) 1 && nat_le (span b.high) 1)
 
--- how many values the table has for a Search of m of n entries: m columns and two ends
+-- how many values the table has for a search of m of n entries: m columns and two ends
 abbrev pub table_size : ℕ → ℕ → ℕ
 table_size n m = m * (2 * n - m + 1) / 2 + 2
 

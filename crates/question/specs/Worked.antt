@@ -14,7 +14,7 @@ use Rattle.question.specs.declared.asking.Side.{Side}
 use Rattle.question.specs.declared.asking.Side.TheVariants.{Paid, Left}
 use Rattle.question.specs.declared.asking.Question.{Question}
 
--- what a Search has to come, the solutions by definition, the sets that both must give, and the steps where they are known
+-- what a search has to come, the solutions by definition, the sets that both must give, and the steps where they are known
 pub record Example : Type 0 where
   pub comes : Trace
   pub solved : List (List ℕ)
@@ -71,7 +71,7 @@ abbrev in_steps : ℕ → Option ℕ → Bool
 in_steps n None = true
 in_steps n (Some k) = n == k
 
--- the Search hands out these sets in these steps, and they are the solutions
+-- the search hands out these sets in these steps, and they are the solutions
 abbrev agrees : Example → Bool
 agrees e = same_sets (somes e.comes) e.sets && same_sets e.solved e.sets && in_steps (length e.comes) e.steps
 

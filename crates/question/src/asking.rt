@@ -65,7 +65,7 @@ fn band_fits<M: Measure>(band: Band<M>) -> bool
     band.low.not_above(band.high) && band.low.admitted() && band.high.admitted()
 }
 
-// Whether the table of a Search for m of n entries has room.
+// Whether the table of a search for m of n entries has room.
 // Kept: in 128 bits, since n has no bound here.
 fn table_fits(n: usize, m: usize, room: usize) -> bool
     requires { m ≤ n }

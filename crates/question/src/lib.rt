@@ -1,4 +1,4 @@
-// Questions to a straight roll: which are accepted, the table that is written for one, and the Search over it.
+// Questions to a straight roll: which are accepted, the table that is written for one, and the search over it.
 #![tactic(auto)]
 
 pub mod asking;

@@ -20,6 +20,6 @@ pub record Totals {M : Type 0} (a : Algebra) (row : M → Row) (span : M → ℕ
   pub exact : row v ≡ total a (rows_of row xs) (range_with_len 1 (length xs))
   pub small : span v ≤ length xs
 
--- what calls keep is what totals and Searches ask: few entries of small spans, whose rows climb from place to place
+-- what calls keep is what totals and searches ask: few entries of small spans, whose rows climb from place to place
 abbrev pub Ready : {M : Type 0} → Algebra → (M → Row) → (M → ℕ) → Type 0
 Ready {M} a row span = (xs : List (Entry M)) → Kept (kind a row span) xs → Few span xs × Rows a (rows_of row xs)

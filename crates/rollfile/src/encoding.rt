@@ -14,6 +14,7 @@ pub fn blank(out: &mut [u8])
 }
 
 // An output, and the place behind what is written.
+// Kept: a type beside the text of listings, since its room is tested before it writes, and its puts cannot fail.
 #[derive(Drop)]
 pub(crate) struct Writer<'a> {
     pub(crate) out: &'a mut [u8],

@@ -1,4 +1,4 @@
--- The table of a Search: the totals of neighbouring entries, one column after another. The column of k + 1 neighbours
+-- The table of a search: the totals of neighbouring entries, one column after another. The column of k + 1 neighbours
 -- holds a total for each place that a stretch of k + 1 neighbours can begin with.
 use Rattle.std.specs.Prelude.{◌≡◌, ℕ, zero, suc, ◌+◌, ◌-◌, ◌<◌, ◌≤◌, Bool, ◌&&◌, List, map, length, take, nat_le, nat_lt, slice_index_or}
 use Rattle.std.specs.List.{range_with_len}
