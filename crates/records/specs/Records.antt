@@ -54,6 +54,7 @@ byte_of QuestionKind = 4
 abbrev pub known : ℕ → Bool
 known k = k == 1 || k == 2 || k == 3 || k == 4
 
+-- Kept: kinds by their kind byte from here on, since these definitions speak of any bytes, also of those that are no kind.
 -- how many bytes the body of a kind has
 abbrev pub size_of : ℕ → ℕ
 size_of k = cond (k == 1) 1 (cond (k == 2) 36 (cond (k == 3) 4 65))

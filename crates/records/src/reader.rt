@@ -117,6 +117,7 @@ impl<'a> Reader<'a> {
     }
 
     // The next record, none at the end of the file, or the fault.
+    // Kept: a method and no iterator's, since callers ask for the place before they read.
     pub fn next(&mut self) -> Result<Option<Record<'a>>, Fault>
         ensures { ReadNext self.old result self.new }
     {
