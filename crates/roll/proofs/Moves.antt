@@ -1,20 +1,63 @@
--- What moving the elements of a list by one leaves.
+-- What loops that move the elements of a list by one leave, and one that sets them.
 use Rattle.std.proofs.Common.{◌≡◌, ℕ, zero, suc, ◌+◌, ◌-◌, ◌<◌, ◌≤◌, List, [], ◌∷◌, ◌++◌, length, get_or, take, drop, set, replicate, sym, refl, ap, ◌∙◌, add-one, arith}
 use Rattle.std.specs.List.{insert, remove}
-use Rattle.std.proofs.Math.Seq.{take-append-add}
-use Rattle.std.proofs.lemmas.List.{take_all, take-take, length-drop, drop_more, drop_all, set_at, append_assoc, append-nil, replicate_more, length-replicate, take_at, length-take-le}
-use Rattle.std.proofs.lemmas.List.Edits.{length-remove}
-use Rattle.std.proofs.lemmas.Slice.{put_mid-rotated}
-use borrow.Rule.Slice.PartMut.{mid_of, put_mid}
+use Rattle.std.proofs.lemmas.List.{take_more, drop_more, set_at, length-take-le, append_assoc, append-nil, take_at, take_all, drop_all, take-append-drop, take-take, get_or-append_right, get_or-drop, replicate_more, length-replicate}
+use Rattle.std.proofs.lemmas.List.Edits.{length-insert, get_or-insert_at, get_or-insert_above, length-remove, get_or-remove_above}
 
--- what a rotation to the left leaves in front
-pub gap_closed : {X : Type 0} (xs ys : List X) (i k : ℕ) → i < length xs → length xs ≤ i + k → ys ≡ drop 1 (mid_of i k xs) ++ take 1 (mid_of i k xs) → take (length xs - 1) (put_mid i k xs ys) ≡ remove xs i
-gap_closed [] ys i k h l turned = absurd (omega arith)
-gap_closed (d ∷ ds) ys i k h l turned =
-    let xs = d ∷ ds in
-    let n = length-remove xs i h in
-    ap (take (length xs - 1)) (put_mid-rotated i k xs ys d h l turned)
-    ∙ take_at (remove xs i) (get_or xs i d ∷ []) (length xs - 1) (omega arith)
+-- one more element of ys over xs
+pub over_more : {X : Type 0} (xs ys : List X) (i : ℕ) (y : X) → i < length xs → i < length ys → y ≡ get_or ys i y → set (take i ys ++ drop i xs) i y ≡ take (i + 1) ys ++ drop (i + 1) xs
+over_more xs ys i y h l e =
+    ap (λ z. set (take i ys ++ z) i y) (drop_more xs i y h)
+    ∙ set_at (take i ys) (get_or xs i y) (drop (i + 1) xs) y i (length-take-le i ys (omega arith))
+    ∙ sym (append_assoc (take i ys) (y ∷ []) (drop (i + 1) xs))
+    ∙ ap (λ z. (take i ys ++ (z ∷ [])) ++ drop (i + 1) xs) e
+    ∙ ap (λ z. z ++ drop (i + 1) xs) (sym (take_more ys i y l))
+
+-- past i it is xs still
+pub over_read : {X : Type 0} (xs ys : List X) (i j : ℕ) (d : X) → i ≤ length ys → i ≤ j → get_or (take i ys ++ drop i xs) j d ≡ get_or xs j d
+over_read xs ys i j d h l =
+    get_or-append_right (take i ys) (drop i xs) i j d (length-take-le i ys h) l
+    ∙ get_or-drop i xs (j - i) d
+    ∙ ap (λ n. get_or xs n d) (omega arith)
+
+pub over_none : {X : Type 0} (xs q : List X) (i : ℕ) → i ≤ length xs → xs ≡ take i (take i xs ++ q) ++ drop i xs
+over_none xs q i h = sym (ap (λ z. z ++ drop i xs) (take_at (take i xs) q i (length-take-le i xs h)) ∙ take-append-drop i xs)
+
+pub over_all : {X : Type 0} (xs ys : List X) (i : ℕ) → length xs ≤ i → take i ys ++ drop i xs ≡ take i ys
+over_all xs ys i h = ap (λ z. take i ys ++ z) (drop_all i xs h) ∙ append-nil (take i ys)
+
+-- a loop that puts e at p, and carries each on by one
+module _ {X : Type 0} (xs : List X) (p : ℕ) (e : X) (within : p ≤ length xs) where
+  pub insert_holds : (xs ≡ take p (insert xs p e) ++ drop p xs) × (e ≡ get_or (insert xs p e) p e)
+  insert_holds = (over_none xs (e ∷ drop p xs) p within, sym (get_or-insert_at xs p e e within))
+
+  pub insert_again : (ys : List X) (i : ℕ) (carried next : X) → p ≤ i → i < length xs → ys ≡ take i (insert xs p e) ++ drop i xs → carried ≡ get_or (insert xs p e) i carried → next ≡ get_or ys i next → (set ys i carried ≡ take (i + 1) (insert xs p e) ++ drop (i + 1) xs) × (next ≡ get_or (insert xs p e) (i + 1) next)
+  insert_again ys i carried next l h so c r =
+      let n = length-insert xs p e within in (
+        ap (λ z. set z i carried) so ∙ over_more xs (insert xs p e) i carried h (omega arith) c,
+        r ∙ ap (λ z. get_or z i next) so ∙ over_read xs (insert xs p e) i i next (omega arith) (omega arith) ∙ sym (get_or-insert_above xs p e next i l within),
+      )
+
+  pub insert_ends : (ys : List X) (i : ℕ) → length xs ≤ i → i ≤ length xs → ys ≡ take i (insert xs p e) ++ drop i xs → ys ≡ take (length xs) (insert xs p e)
+  insert_ends ys i l h so = let q : i ≡ length xs = omega arith in so ∙ over_all xs (insert xs p e) i l ∙ ap (λ n. take n (insert xs p e)) q
+
+-- a loop that moves each past p back by one
+module _ {X : Type 0} (xs : List X) (p : ℕ) (within : p < length xs) where
+  pub gap_holds : xs ≡ take p (remove xs p) ++ drop p xs
+  gap_holds = over_none xs (drop (suc p) xs) p (omega arith)
+
+  pub gap_again : (ys : List X) (i : ℕ) (next : X) → p ≤ i → i < length xs - 1 → ys ≡ take i (remove xs p) ++ drop i xs → next ≡ get_or ys (i + 1) next → set ys i next ≡ take (i + 1) (remove xs p) ++ drop (i + 1) xs
+  gap_again ys i next l h so r =
+      let n = length-remove xs p within in
+      ap (λ z. set z i next) so ∙ over_more xs (remove xs p) i next (omega arith) (omega arith)
+      (r ∙ ap (λ z. get_or z (i + 1) next) so ∙ over_read xs (remove xs p) i (i + 1) next (omega arith) (omega arith) ∙ sym (get_or-remove_above xs p next i l within))
+
+  pub gap_ends : (ys : List X) (i : ℕ) → length xs - 1 ≤ i → i ≤ length xs - 1 → ys ≡ take i (remove xs p) ++ drop i xs → take (length xs - 1) ys ≡ remove xs p
+  gap_ends ys i l h so =
+      let n = length-remove xs p within in
+      let q : i ≡ length xs - 1 = omega arith in
+      let t = take_all i (remove xs p) (omega arith) in
+      ap (take (length xs - 1)) (so ∙ ap (λ z. z ++ drop i xs) t) ∙ take_at (remove xs p) (drop i xs) (length xs - 1) (omega arith)
 
 -- a loop that sets each cell to z
 pub filled_more : {X : Type 0} (z : X) (xs now : List X) (i : ℕ) → i < length xs → now ≡ replicate i z ++ drop i xs → set now i z ≡ replicate (i + 1) z ++ drop (i + 1) xs
@@ -23,24 +66,6 @@ filled_more z xs now i h so =
     ∙ set_at (replicate i z) (get_or xs i z) (drop (i + 1) xs) z i (length-replicate i z)
     ∙ sym (append_assoc (replicate i z) (z ∷ []) (drop (i + 1) xs))
     ∙ ap (λ l. l ++ drop (i + 1) xs) (replicate_more i z)
-
--- what a rotation to the right leaves, where the first then becomes e
-pub room_made : {X : Type 0} (xs ys : List X) (i k : ℕ) (e : X) → i < length xs → k ≡ length xs - i → ys ≡ drop (length (mid_of i k xs) - 1) (mid_of i k xs) ++ take (length (mid_of i k xs) - 1) (mid_of i k xs) → set (put_mid i k xs ys) i e ≡ take (length xs) (insert xs i e)
-room_made xs ys i k e h w turned =
-    let rest = drop i xs in
-    let long : length rest ≡ k = length-drop i xs ∙ sym w in
-    let m : mid_of i k xs ≡ rest = take_all k rest (omega arith) in
-    let none : drop k rest ≡ [] = drop_all k rest (omega arith) in
-    let one : k - 1 + 1 ≡ k = omega arith in
-    let last : drop (k - 1) rest ≡ get_or rest (k - 1) e ∷ [] = drop_more rest (k - 1) e (omega arith) ∙ ap (λ l. get_or rest (k - 1) e ∷ l) (ap (λ n. drop n rest) one ∙ none) in
-    let made : ys ≡ get_or rest (k - 1) e ∷ take (k - 1) rest =
-    turned ∙ ap (λ l. drop (length l - 1) l ++ take (length l - 1) l) m ∙ ap (λ n. drop (n - 1) rest ++ take (n - 1) rest) long ∙ ap (λ l. l ++ take (k - 1) rest) last in
-    let front : length (take i xs) ≡ i = length-take-le i xs (omega arith) in
-    let part : length (take i xs) + k ≡ length xs = omega arith in
-    let more : k ≡ suc (k - 1) = omega arith in
-    ap (λ l. set (take i xs ++ l) i e) (ap (λ l. ys ++ l) none ∙ append-nil ys ∙ made)
-    ∙ set_at (take i xs) (get_or rest (k - 1) e) (take (k - 1) rest) e i front
-    ∙ sym (ap (λ n. take n (insert xs i e)) (sym part) ∙ take-append-add (take i xs) (e ∷ rest) k ∙ ap (λ n. take i xs ++ take n (e ∷ rest)) more)
 
 -- with one cell more than stand
 front : {X : Type 0} (n p : ℕ) (xs : List X) (e : X) → p ≤ n → take (suc n) (insert (take (suc n) xs) p e) ≡ insert (take n xs) p e

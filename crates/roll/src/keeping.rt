@@ -1,5 +1,5 @@
 // Keeping entries in lent cells, for any order in which they are kept and any value.
-ghost use Rattle.std.specs.Prelude.{◌≡◌, ◌-◌, ◌<◌, min, false, not, [], length, take, replicate, is_ok, nat_lt, ◌==◌};
+ghost use Rattle.std.specs.Prelude.{◌≡◌, ◌-◌, ◌<◌, ◌≤◌, min, false, not, [], length, take, replicate, is_ok, nat_lt, ◌==◌};
 ghost use Rattle.std.specs.List.{insert, remove, position};
 ghost use Rattle.roll.specs.Order.{numbered, without};
 ghost use Rattle.roll.specs.Cells.{held, room_of, at, striking, Inserted};
@@ -9,20 +9,28 @@ use crate::ledger::Ledger;
 use crate::refusal::Refusal;
 
 // Puts the entry at the index, and moves each from there on by one cell; the last is lost.
+// Kept: a loop over indices, here and in closing a gap: the slice's rotations call `memmove`, which a C program that links the
+// library need not have otherwise.
 fn insert<V: Copy>(cells: &mut [Entry<V>], index: usize, one: Entry<V>)
-    requires { index < length cells.old }
+    requires { index ≤ length cells.old }
     ensures { cells.new ≡ take (length cells.old) (insert cells.old index one) }
 {
-    cells[index..].rotate_right(1);
-    cells[index] = one;
+    let mut carried = one;
+    for i in index..cells.len() {
+        let next = cells[i];
+        cells[i] = carried;
+        carried = next;
+    }
 }
 
-// Takes out what stands at the index, and moves each after it back by one cell.
+// Takes out what stands at the index, and moves each after it back by one cell; the last stays, too.
 fn close_gap<V: Copy>(cells: &mut [Entry<V>], index: usize)
     requires { index < length cells.old }
     ensures { take (length cells.old - 1) cells.new ≡ remove cells.old index }
 {
-    cells[index..].rotate_left(1);
+    for i in index..cells.len() - 1 {
+        cells[i] = cells[i + 1];
+    }
 }
 
 // Sets each cell to the entry.
