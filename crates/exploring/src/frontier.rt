@@ -6,12 +6,13 @@ use arrayvec::ArrayVec;
 use squeezing::frame::Frame;
 
 // The spaces that wait: the first one, if it is fresh, or the children of the spaces on the way down, a level for each.
-// Kept: `fresh` is a flag, since the root stays for its sizes and for the next restart; an Option would hold it twice.
+// Kept: `fresh` is a flag, since the root stays for its sizes and for the next restart; an Option would hold it twice. It stands
+// behind the levels: before them, they were copied once more when a search began.
 #[derive(Drop)]
 pub struct Frontier {
     pub root: Frame,
-    pub fresh: bool,
     pub levels: ArrayVec<Level, 120>,
+    pub fresh: bool,
     ghost lowest: { (j : ℕ) → j < root.m → slice_index root.lo j ≡ 1 + j },
     ghost highest: { (j : ℕ) → j < root.m → slice_index root.hi j ≡ root.n - root.m + 1 + j },
     ghost deep: { length levels.items ≤ root.m },

@@ -1,6 +1,7 @@
 ghost use Rattle.std.specs.Prelude.{◌+◌, ◌<◌, ◌≤◌, slice_index};
 ghost use Rattle.exploring.specs.Settled.{SettledBelow};
 
+use crate::whole::whole;
 use squeezing::frame::Frame;
 
 // A squeezed space, the index of its first open position, and the next place to try there.
@@ -15,16 +16,12 @@ pub struct Level {
     ghost settled: { SettledBelow frame at },
 }
 
-// What stands where no level is.
+// What stands where no level is. Its space is made by `whole`: with arrays written out here, the 120 levels of a frontier were
+// copied five times more when a search began.
 impl Default for Level {
     fn default() -> Level {
         Level {
-            frame: Frame {
-                n: 1,
-                m: 1,
-                lo: [1; 120],
-                hi: [1; 120],
-            },
+            frame: whole(1, 1),
             at: 0,
             next: 1,
         }
