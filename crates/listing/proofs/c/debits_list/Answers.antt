@@ -3,7 +3,7 @@ use Rattle.std.specs.Result.{OkIff, result_unwrap_or}
 use Rattle.std.proofs.lemmas.Int.{to_z-of_z}
 use Rattle.listing.specs.Listing.{as_number}
 use Rattle.listing.specs.Text.{Told}
-use Rattle.listing_c.proofs.debits_list.Goals as goal
+use Rattle.listing.proofs.c.debits_list.Goals as goal
 
 -- a number that fits is converted as it is
 converts : {E : Type 0} (r : Result ℤ E) (P : Type 0) (v d : ℤ) → OkIff r P v → P → result_unwrap_or r d ≡ v
