@@ -79,7 +79,7 @@ impl<'d> Drive<'d> {
 
     // Advances a search for sets of so many places to its end. Each advance keeps to its allowance, and is spent only
     // with all of it and with steps still to come.
-    pub fn run<F: FnMut(u32, &mut [u16]) -> Result<Answer, Refusal>>(
+    pub(crate) fn run<F: FnMut(u32, &mut [u16]) -> Result<Answer, Refusal>>(
         mut self,
         size: usize,
         mut advance: F,

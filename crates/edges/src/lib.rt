@@ -1,6 +1,19 @@
 // Tests at the edges of the refusals, in a crate of their own: a crate with tests is proved twice.
 #![tactic(auto)]
 
+ghost use Rattle.std.specs.Prelude.{◌≡◌, Ok, Err};
+ghost use Rattle.roll.specs.Refusals.{number_of};
+
+use roll::refusal::Refusal;
+
+// The number of the refusal, or 0.
+// Kept: a number, since the tests of `numbers` say by it what files, listings and C programs tell.
+pub fn told(answer: Result<(), Refusal>) -> u8
+    ensures { elim answer [ Ok u ↦ result ≡ 0 | Err e ↦ result ≡ number_of e ] }
+{
+    answer.map_or_else(Refusal::number, |()| 0)
+}
+
 #[cfg(test)]
 mod entries {
     use crossed::entries::{Amounts, Entry as CrossedEntry};
@@ -58,7 +71,7 @@ mod questions {
     use roll::refusal::Refusal;
 
     // A question to a straight roll.
-    fn asked(side: Side, size: usize, low: i64, high: i64) -> Question<Cents> {
+    pub fn asked(side: Side, size: usize, low: i64, high: i64) -> Question<Cents> {
         Question {
             side,
             size,
@@ -298,5 +311,74 @@ mod files {
             Err(fault(Refusal::NumberUnknown, 2, Layer::Roll))
         );
         assert_eq!(rt; cells[1].number, 0);
+    }
+}
+
+// The number of each refusal, as a call tells it.
+#[cfg(test)]
+mod numbers {
+    use crate::entries::{cents, crossed, entry, pair};
+    use crate::questions::asked;
+    use crate::told;
+    use crossed::entering::open as open_crossed;
+    use crossed::entries::Columns;
+    use listing::listing::list;
+    use question::asking::Side;
+    use question::beginning::{begin, check};
+    use roll::entering::open;
+    use rollfile::reading::check_file;
+
+    #[test]
+    fn of_rolls(rt: HostRuntime) {
+        let mut cells = [entry(0, 0); 2];
+        let mut roll = open(&mut cells);
+        assert_eq!(rt; told(roll.enter(entry(7, 2_000_000_000_000_001))), 1);
+        assert_eq!(rt; told(roll.enter(entry(7, 2_000_000_000_000_000))), 0);
+        assert_eq!(rt; told(roll.enter(entry(7, 3))), 2);
+        assert_eq!(rt; told(roll.enter(entry(8, 3))), 0);
+        assert_eq!(rt; told(roll.enter(entry(9, 3))), 3);
+        assert_eq!(rt; told(roll.strike(9)), 5);
+        let mut pairs = [pair(0, 0, 0); 2];
+        let mut roll = open(&mut pairs);
+        assert_eq!(rt; told(roll.enter(pair(2, 1, 1))), 0);
+        assert_eq!(rt; told(roll.enter(pair(3, 0, 9))), 4);
+        let mut crosses = [crossed(0, 0, 0); 1];
+        let mut roll = open_crossed(&mut crosses, Columns::One);
+        assert_eq!(rt; told(roll.enter(crossed(4, 1, 1))), 11);
+    }
+
+    #[test]
+    fn of_questions(rt: HostRuntime) {
+        let mut cells = [entry(0, 0); 2];
+        let mut roll = open(&mut cells);
+        let _ = roll.enter(entry(1, 1));
+        let _ = roll.enter(entry(2, 2));
+        let mut table = [cents(0); 5];
+        let short = [cents(0); 4];
+        assert_eq!(rt; told(check(&roll, asked(Side::Paid, 0, 3, 3), &table)), 6);
+        assert_eq!(rt; told(check(&roll, asked(Side::Paid, 2, 3, 2), &table)), 7);
+        assert_eq!(rt; told(check(&roll, asked(Side::Paid, 2, 3, 3), &short)), 8);
+        assert_eq!(rt; told(check(&roll, asked(Side::Paid, 2, 3, 3), &table)), 0);
+        let mut search = begin(&roll, asked(Side::Paid, 2, 3, 3), &mut table);
+        let mut page = [0; 1];
+        assert_eq!(rt; told(search.advance(9, &mut page).map(|_| ())), 9);
+    }
+
+    // The number of the refusal of a file, or 0.
+    fn of_file(file: &[u8]) -> u8 {
+        let mut cells = [crossed(0, 0, 0); 2];
+        told(check_file(file, &mut cells).map_err(|fault| fault.refusal))
+    }
+
+    #[test]
+    fn of_files(rt: HostRuntime) {
+        assert_eq!(rt; of_file(&[1, 4]), 0);
+        assert_eq!(rt; of_file(&[1, 4, 3, 0, 0, 0, 1]), 5);
+        assert_eq!(rt; of_file(&[1, 5]), 10);
+        assert_eq!(rt; of_file(&[1, 4, 9]), 12);
+        assert_eq!(rt; of_file(&[]), 13);
+        assert_eq!(rt; of_file(&[1, 4, 1, 2]), 14);
+        let mut out = [0; 6];
+        assert_eq!(rt; told(list(&[], &mut out).map(|_| ())), 15);
     }
 }
