@@ -17,7 +17,7 @@ pub struct Level {
 }
 
 // What stands where no level is. Its space is made by `whole`: with arrays written out here, the 120 levels of a frontier were
-// copied five times more when a search began.
+// copied several times more when a search began.
 impl Default for Level {
     fn default() -> Level {
         Level {
